@@ -7,14 +7,14 @@ use native.Mathlib.Omega.{arith}
 use native.Mathlib.Nat.{pow-succ', mod-eq-of-lt, mod-one, mul-assoc, add-mul, add-zero, div-one}
 use lib.Arith.{mod-mul, digits-div, digits-mod, digits-lt}
 use lib.Dec.{leb}
-use lib.ListN.{length, getD, take, drop, length-drop}
+use lib.ListN.{length, getD, drop, length-drop}
 use borrow.Rule.Slice.PartMut.{putMid}
 use Rattle.std.specs.declared.option.Option.the-variants.{Some, None}
-use Rattle.std.proofs.shelf.Lists.{drop-more, drop-all, drop-drop}
+use Rattle.std.proofs.shelf.Lists.{drop-more, drop-all}
 use Rattle.std.proofs.shelf.Tests.{cond-true, le-leb}
 use Rattle.bytes.specs.Runs.{run, put, zeros, grow, Octets}
 use Rattle.bytes.specs.Numbers.{be, be-bytes, number, spell, found}
-use Rattle.bytes.proofs.Runs.{length-run, getD-run, run-put-same, run-put-apart, run-put-inside, run-grow-old, run-grow-new, run-run, length-put}
+use Rattle.bytes.proofs.Runs.{length-run, getD-run, run-put-same, run-put-apart, run-put-inside, run-grow-old, run-grow-new, run-run, length-put, put-mid}
 use Rattle.bytes.proofs.Octets.{octets-run}
 
 pub length-be-bytes : (w x : ℕ) → length (be-bytes w x) ≡ w
@@ -185,8 +185,5 @@ found-is bs at w x h e = ap (λ n. Some n) e ∙ sym (cond-true (leb (at + w) (l
 
 -- what a copy of a number's bytes leaves
 pub spell-is : (bs : List ℕ) (at w x n : ℕ) (new : List ℕ) → n ≡ w → new ≡ be-bytes w x → putMid at n bs new ≡ spell bs at w x
-unfolding spell put
-spell-is bs at w x n new e f =
-    ap (λ k. take at bs ++ (new ++ drop k (drop at bs))) e
-    ∙ ap (λ l. take at bs ++ (l ++ drop w (drop at bs))) f
-    ∙ ap (λ l. take at bs ++ (be-bytes w x ++ l)) (drop-drop w at bs ∙ ap (λ k. drop (at + k) bs) (sym (length-be-bytes w x)))
+unfolding spell
+spell-is bs at w x n new e f = put-mid bs at n new (e ∙ sym (ap length f ∙ length-be-bytes w x)) ∙ ap (put bs at) f

@@ -1,0 +1,10 @@
+use mathlib.Core.Path.{sym}
+use lib.ListN.{length-append}
+use Rattle.bytes.proofs.Octets.{octets-append}
+use Rattle.store.proofs.split.octets_across.Needs as need
+
+pub returns : need.returns
+returns c = record {
+  value = sym (length-append (c .args .front .now) (c .args .back .now));
+  octets = octets-append (c .args .front .now) (c .args .back .now) (c .octets-of .ensures .octets) (c .octets-of-2 .ensures .octets);
+}
