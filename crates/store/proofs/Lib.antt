@@ -1,2 +1,3 @@
 mod Outcomes
 mod Seams
+mod Agreement

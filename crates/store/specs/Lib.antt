@@ -1,3 +1,4 @@
 pub mod Stores
 pub mod Flat
 pub mod Split
+pub mod Calls

@@ -8,10 +8,12 @@ ghost use Rattle.fault.specs.Outcomes.{Gives};
 ghost use Rattle.store.specs.Stores.{load, stored, grown};
 use fault::Fault;
 
+mod calls;
 mod flat;
 mod runs;
 mod split;
 
+pub use calls::StoreCall;
 pub use flat::FlatStore;
 pub use flat::FlatStoreStore;
 pub use split::SplitStore;
@@ -24,14 +26,15 @@ pub trait Store {
     // what their length never passes
     ghost limit: { Self → ℕ };
 
-    law held: { (s : Self) → length (bytes s) ≤ limit s };
-
+    // Every store owes `octets` and `held`: its elements are bytes, and it never passes its limit.
     fn length(&self) -> u64
         ensures value { λ r. ⌜ r ≡ length (bytes (now (self .entry))) ⌝ }
-        ensures octets { λ _. ⌜ Octets (bytes (now (self .entry))) ⌝ };
+        ensures octets { λ _. ⌜ Octets (bytes (now (self .entry))) ⌝ }
+        ensures held { λ _. ⌜ length (bytes (now (self .entry))) ≤ limit (now (self .entry)) ⌝ };
 
     fn limit(&self) -> u64
-        ensures value { λ r. ⌜ r ≡ limit (now (self .entry)) ⌝ };
+        ensures value { λ r. ⌜ r ≡ limit (now (self .entry)) ⌝ }
+        ensures held { λ _. ⌜ length (bytes (now (self .entry))) ≤ limit (now (self .entry)) ⌝ };
 
     // Reads the run that begins at `first` and fills `out`.
     fn read(&self, first: u64, out: &mut [u8]) -> Result<(), Fault>

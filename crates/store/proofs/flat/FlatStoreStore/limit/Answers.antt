@@ -1,0 +1,7 @@
+use borrow.Author.Needs.{needs}
+use lib.ListN.{length-take}
+use native.Mathlib.Omega.{arith}
+use Rattle.store.proofs.flat.FlatStoreStore.limit.Needs as need
+
+pub returns : need.returns
+returns c = record { value = search needs; held = omega (arith, length-take (c .args .self .now .used) (c .args .self .now .list .now)) }
