@@ -1,3 +1,4 @@
 pub mod Runs
+pub mod Lent
 pub mod Octets
 pub mod Numbers

@@ -14,7 +14,8 @@ use Rattle.std.proofs.shelf.Lists.{drop-more, drop-all}
 use Rattle.std.proofs.shelf.Tests.{cond-true, le-leb}
 use Rattle.bytes.specs.Runs.{run, put, zeros, grow, Octets}
 use Rattle.bytes.specs.Numbers.{be, be-bytes, number, spell, found}
-use Rattle.bytes.proofs.Runs.{length-run, getD-run, run-put-same, run-put-apart, run-put-inside, run-grow-old, run-grow-new, run-run, length-put, put-mid}
+use Rattle.bytes.proofs.Runs.{length-run, getD-run, run-put-same, run-put-apart, run-put-inside, run-grow-old, run-grow-new, run-run, length-put}
+use Rattle.bytes.proofs.Lent.{put-mid}
 use Rattle.bytes.proofs.Octets.{octets-run}
 
 pub length-be-bytes : (w x : ℕ) → length (be-bytes w x) ≡ w

@@ -6,7 +6,6 @@ use Prim.Native.Nat.{ℕ, zero, suc, _+_, _-_, _*_, _≤_, _<_, min}
 use native.Mathlib.Nat.{add-zero}
 use native.Mathlib.Omega.{arith}
 use lib.ListN.{length, getD, take, drop, replicate, length-append, length-take, length-drop, length-replicate}
-use borrow.Rule.Slice.PartMut.{putMid}
 use Rattle.std.proofs.shelf.Lists.{places, same-lists, getD-take, getD-drop, getD-past, take-all, drop-all, take-take, drop-drop, take-at, drop-at, take-append-le, drop-append-le, getD-append-left, getD-append-right, getD-replicate, take-replicate, drop-replicate, replicate-append-replicate, take-append-drop}
 use Rattle.std.proofs.shelf.Tests.{cases-lt}
 use Rattle.bytes.specs.Runs.{run, put, zeros, grow, Octets}
@@ -185,11 +184,6 @@ pub grow-put : (bs : List ℕ) (at : ℕ) (new : List ℕ) (n : ℕ) → at + le
 unfolding grow zeros put
 grow-put bs at new n h =
     same-lists (grow (put bs at new) n) (put (grow bs n) at new) (simp (length-append, length-take, length-drop, length-replicate) (omega arith)) (λ j d lt. grind (arith, places, length-take, length-drop))
-
--- a copy into a lent part of a list is a replacement
-pub put-mid : (bs : List ℕ) (at n : ℕ) (new : List ℕ) → n ≡ length new → putMid at n bs new ≡ put bs at new
-unfolding put
-put-mid bs at n new e = ap (λ l. take at bs ++ (new ++ l)) (drop-drop n at bs ∙ ap (λ k. drop (at + k) bs) e)
 
 -- a run within the front of a list is the list's
 pub run-take : (bs : List ℕ) (m at n : ℕ) → at + n ≤ m → run (take m bs) at n ≡ run bs at n

@@ -4,6 +4,7 @@ ghost use mathlib.Core.Bool.{cond};
 ghost use Prim.Native.Nat.{_+_};
 ghost use lib.Dec.{leb};
 ghost use lib.ListN.{length};
+ghost use Rattle.bytes.specs.Runs.{Octets};
 ghost use Rattle.bytes.specs.Numbers.{found, spell};
 
 // Whether n bytes from `at` on lie in a list of `len`.
@@ -11,6 +12,18 @@ fn inside(at: usize, n: usize, len: usize) -> bool
     ensures value { λ r. ⌜ r ≡ leb (at + n) len ⌝ }
 {
     at <= len && n <= len - at
+}
+
+// The length of a list, and that its elements are bytes, for those who know the list only by its meaning.
+pub fn length_of(list: &[u8]) -> usize
+    ensures value { λ r. ⌜ r ≡ length (now (list .entry)) ⌝ }
+    ensures octets { λ _. ⌜ Octets (now (list .entry)) ⌝ }
+{
+    if list.len() == 0 {
+        return 0;
+    }
+    let _first = list[0];
+    list.len()
 }
 
 pub fn u16_at(list: &[u8], at: usize) -> Option<u16>

@@ -4,9 +4,8 @@ use mathlib.Core.List.{List, _++_}
 use mathlib.Core.Logic.{inl, inr}
 use Prim.Native.Nat.{ℕ, _+_, _-_, _≤_, _<_, min}
 use native.Mathlib.Omega.{arith}
-use lib.ListN.{length, getD, take, drop, length-append, length-take, length-drop}
-use borrow.Rule.Slice.PartMut.{putMid}
-use Rattle.std.proofs.shelf.Lists.{places, same-lists, ext-getD, getD-append-left, getD-append-right}
+use lib.ListN.{length, getD, length-append}
+use Rattle.std.proofs.shelf.Lists.{ext-getD, getD-append-left, getD-append-right}
 use Rattle.std.proofs.shelf.Tests.{cases-lt}
 use Rattle.bytes.specs.Runs.{run, put, zeros}
 use Rattle.store.specs.Split.{Across}
@@ -139,21 +138,6 @@ module _ (a b : List ℕ) (at k low high : ℕ) (new x y : List ℕ) (fits : at 
         | inl before ↦ getD-append-left (put a low x) (put b high y) 0 j (omega (arith, f)) ∙ front-part j before
         | inr behind ↦ getD-append-right (put a low x) (put b high y) (length a) j 0 f behind ∙ back-part j behind
       ]
-
--- a list written in two parts
-pub both-parts : (out x y : List ℕ) (k n : ℕ) → length out ≡ n → length x ≡ k → length y ≡ n - k → k ≤ n → putMid k (n - k) (putMid 0 (k - 0) out x) y ≡ x ++ y
-both-parts out x y k n e f g h =
-    same-lists (putMid k (n - k) (putMid 0 (k - 0) out x) y) (x ++ y) (grind (arith, places)) (λ j d lt. grind (arith, places))
-
--- lengths of lent parts
-pub length-head : (out : List ℕ) (k n : ℕ) → length out ≡ n → k ≤ n → length (take (k - 0) out) ≡ k
-length-head out k n e h = simp length-take (omega arith)
-
-pub length-tail : (out : List ℕ) (k n : ℕ) → length out ≡ n → length (take (n - k) (drop k out)) ≡ n - k
-length-tail out k n e = simp (length-take, length-drop) (omega arith)
-
-pub length-half : (out x : List ℕ) (k n : ℕ) → length out ≡ n → length x ≡ k → k ≤ n → length (putMid 0 (k - 0) out x) ≡ n
-length-half out x k n e f h = grind (arith, places)
 
 -- zeros written across the seam
 pub clear-seam : (a b : List ℕ) (at k low high n : ℕ) → at + n ≤ length a + length b → Across at n (length a) k low high → put a low (zeros k) ++ put b high (zeros (n - k)) ≡ put (a ++ b) at (zeros n)

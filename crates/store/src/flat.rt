@@ -7,9 +7,9 @@ ghost use Rattle.store.specs.Flat.{flat-bytes, flat-limit};
 use crate::Store;
 use crate::runs::clear_run;
 use crate::runs::copy_run;
-use crate::runs::octets_of;
 use crate::runs::replace_run;
 use crate::runs::within;
+use bytes::length_of;
 use fault::Fault;
 use fault::Layer;
 use fault::Reason;
@@ -33,7 +33,7 @@ impl<'a> FlatStore<'a> {
         ensures value { λ r. ⌜ r ≡ length (flat-bytes (now (self .entry))) ⌝ }
         ensures octets { λ _. ⌜ Octets (flat-bytes (now (self .entry))) ⌝ }
     {
-        self.used.min(octets_of(self.list))
+        self.used.min(length_of(self.list))
     }
 }
 

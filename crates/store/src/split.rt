@@ -8,9 +8,9 @@ ghost use Rattle.store.specs.Split.{joined, split-bytes, split-limit, Across};
 use crate::Store;
 use crate::runs::clear_run;
 use crate::runs::copy_run;
-use crate::runs::octets_of;
 use crate::runs::replace_run;
 use crate::runs::within;
+use bytes::length_of;
 use fault::Fault;
 use fault::Layer;
 use fault::Reason;
@@ -116,7 +116,7 @@ fn octets_across(front: &[u8], back: &[u8]) -> usize
     ensures value { λ r. ⌜ r ≡ length (now (front .entry) ++ now (back .entry)) ⌝ }
     ensures octets { λ _. ⌜ Octets (now (front .entry) ++ now (back .entry)) ⌝ }
 {
-    octets_of(front);
-    octets_of(back);
+    length_of(front);
+    length_of(back);
     front.len() + back.len()
 }

@@ -3,7 +3,8 @@ use Prim.Native.Nat.{ℕ, _+_, _-_}
 use native.Mathlib.Omega.{arith}
 use lib.ListN.{length, take, drop, replicate, length-take, length-drop}
 use Rattle.bytes.specs.Runs.{put, zeros}
-use Rattle.bytes.proofs.Runs.{put-mid, length-zeros}
+use Rattle.bytes.proofs.Lent.{put-mid}
+use Rattle.bytes.proofs.Runs.{length-zeros}
 use Rattle.store.proofs.runs.clear_run.Needs as need
 
 pub returns : need.returns

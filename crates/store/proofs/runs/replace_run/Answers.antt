@@ -3,7 +3,7 @@ use Prim.Native.Nat.{_+_, _-_}
 use native.Mathlib.Omega.{arith}
 use lib.ListN.{length}
 use Rattle.bytes.specs.Runs.{put}
-use Rattle.bytes.proofs.Runs.{put-mid}
+use Rattle.bytes.proofs.Lent.{put-mid}
 use Rattle.store.proofs.runs.replace_run.Needs as need
 
 pub returns : need.returns

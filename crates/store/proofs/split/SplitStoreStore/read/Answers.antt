@@ -8,7 +8,8 @@ use Rattle.bytes.specs.Runs.{run}
 use Rattle.bytes.proofs.Runs.{run-take, length-run}
 use Rattle.store.specs.Split.{joined, split-bytes}
 use Rattle.store.proofs.Outcomes.{loads, front-within, passed}
-use Rattle.store.proofs.Seams.{run-seam, both-parts, length-head, length-half, length-tail}
+use Rattle.bytes.proofs.Lent.{both-parts, length-head, length-half, length-tail}
+use Rattle.store.proofs.Seams.{run-seam}
 use Rattle.store.proofs.split.SplitStoreStore.read.Needs as need
 
 pub copy-run-requires-2 : need.copy-run-requires-2

@@ -7,7 +7,8 @@ use Rattle.bytes.specs.Runs.{run, put}
 use Rattle.bytes.proofs.Runs.{take-put, length-put}
 use Rattle.store.specs.Split.{joined, split-bytes}
 use Rattle.store.proofs.Outcomes.{stores, front-within, passed}
-use Rattle.store.proofs.Seams.{put-seam, length-tail}
+use Rattle.bytes.proofs.Lent.{length-tail}
+use Rattle.store.proofs.Seams.{put-seam}
 use Rattle.store.proofs.split.SplitStoreStore.replace.Needs as need
 
 pub replace-run-requires-2 : need.replace-run-requires-2

@@ -1,7 +1,7 @@
 use mathlib.Core.Path.{sym, refl}
 use native.Mathlib.Omega.{arith}
 use Rattle.bytes.proofs.Octets.{octets-from}
-use Rattle.store.proofs.runs.octets_of.Needs as need
+use Rattle.bytes.proofs.length_of.Needs as need
 
 pub returns-then-list-eq0 : need.returns-then-list-eq0
 returns-then-list-eq0 c = record { value = sym (c .if-list-eq0 .taken); octets = octets-from (c .args .list .now) (λ i lt. absurd (omega arith)) }

@@ -1,0 +1,3 @@
+mod Sounds
+mod Sectors
+mod Spoilt

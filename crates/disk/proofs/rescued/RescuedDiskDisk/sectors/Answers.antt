@@ -1,0 +1,10 @@
+use mathlib.Core.Path.{sym, subst}
+use Prim.Native.Nat.{_≤_, _^_}
+use Rattle.disk.proofs.Sounds.{sound-rescued}
+use Rattle.disk.proofs.rescued.RescuedDiskDisk.sectors.Needs as need
+
+pub returns : need.returns
+returns c = record {
+  value = c .sectors-in .ensures .value;
+  sound = sound-rescued (c .args .self .now .list .now) (c .args .self .now .spoiled .now) (subst (λ n. n ≤ 2 ^ 55) (c .sectors-in .ensures .value) (c .sectors-in .ensures .most)) (c .sectors-in .ensures .octets);
+}
