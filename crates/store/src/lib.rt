@@ -14,6 +14,7 @@ mod runs;
 mod split;
 
 pub use calls::StoreCall;
+pub use calls::agree;
 pub use flat::FlatStore;
 pub use flat::FlatStoreStore;
 pub use split::SplitStore;
