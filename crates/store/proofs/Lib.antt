@@ -1,3 +1,3 @@
-mod Outcomes
+pub mod Outcomes
 mod Seams
 mod Agreement

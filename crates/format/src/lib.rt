@@ -1,0 +1,7 @@
+// What an image's bytes mean: the header's numbers, judged row by row.
+mod header;
+mod numbers;
+
+pub use header::judge;
+pub use header::judge_store;
+pub use numbers::Numbers;
