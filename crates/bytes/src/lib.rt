@@ -95,3 +95,24 @@ pub fn put_u64(list: &mut [u8], at: usize, x: u64) -> bool
     list[at..at + 8].copy_from_slice(&x.to_be_bytes());
     true
 }
+
+#[cfg(test)]
+mod tests {
+    use super::*;
+    use std::test::*;
+
+    #[test]
+    fn numbers_up_to_the_end_of_a_list() -> Result<(), Fail> {
+        let mut list = [0u8; 9];
+        check(put_u64(&mut list, 1, 0x0102_0304_0506_0708))?;
+        check(!put_u64(&mut list, 2, 1) && !put_u32(&mut list, 6, 1) && !put_u16(&mut list, 8, 1))?;
+        check_eq(u64_at(&list, 1), Some(0x0102_0304_0506_0708))?;
+        check_eq(u64_at(&list, 2), None)?;
+        check(put_u32(&mut list, 5, 0xfffe_fdfc) && put_u16(&mut list, 0, 0xaabb))?;
+        check_eq(u32_at(&list, 5), Some(0xfffe_fdfc))?;
+        check_eq(u32_at(&list, usize::MAX), None)?;
+        check_eq(u16_at(&list, 0), Some(0xaabb))?;
+        check_eq(u16_at(&list, 8), None)?;
+        check_eq(length_of(&list), 9)
+    }
+}

@@ -207,3 +207,20 @@ pub impl fmt::Display for Fault as FaultDisplay {
         write!(f, "{number} {layer} {place} {depth}")
     }
 }
+
+#[cfg(test)]
+mod tests {
+    use super::*;
+    use std::test::*;
+
+    #[test]
+    fn the_depth_is_held_at_255() -> Result<(), Fail> {
+        let mut f = Fault::new(Reason::Spoiled, Layer::Disk, 7);
+        for _ in 0..300 {
+            f = f.deeper();
+        }
+        check_eq(f.depth, 255)?;
+        check_eq(f.place, 7)?;
+        check(f.reason == Reason::Spoiled && f.layer == Layer::Disk)
+    }
+}

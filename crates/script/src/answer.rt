@@ -1,4 +1,6 @@
 // What a call answered, and its record line.
+ghost use mathlib.Core.Path.{_≡_};
+ghost use Rattle.script.specs.Digest.{fnv};
 use fault::Fault;
 use fault::FaultDisplay;
 use std::alloc::AllocError;
@@ -18,7 +20,9 @@ pub(crate) enum Answer {
 }
 
 // The 64-bit FNV-1a of the bytes, going on from a digest of those before them.
-pub(crate) fn digest(before: u64, bytes: &[u8]) -> u64 {
+pub(crate) fn digest(before: u64, bytes: &[u8]) -> u64
+    ensures value { λ r. ⌜ r ≡ fnv before (now (bytes .entry)) ⌝ }
+{
     let mut h = before;
     for b in bytes {
         h = (h ^ u64::from(*b)).wrapping_mul(0x0000_0100_0000_01b3);

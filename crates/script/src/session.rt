@@ -1,4 +1,8 @@
 // A session: the store and the disk that the lines speak of, and what each line does.
+ghost use mathlib.Core.Path.{_≡_};
+ghost use Rattle.std.specs.Of.Vec.{vec-len};
+ghost use Rattle.std.specs.Options.{Cases};
+ghost use Rattle.std.specs.Vec.{made};
 use crate::answer::Answer;
 use crate::answer::NO_BYTES;
 use crate::answer::digest;
@@ -50,7 +54,9 @@ pub struct Session {
 
 impl Session {
     // No store, and a disk of no sectors.
-    pub fn new(heap: Global) -> Session {
+    pub fn new(heap: Global) -> Session
+        ensures empty { λ r. ⌜ (r .used ≡ 0) × (vec-len (r .front) ≡ 0) × (vec-len (r .back) ≡ 0) × (vec-len (r .content) ≡ 0) ⌝ }
+    {
         Session {
             heap,
             kind: StoreKind::Missing,
@@ -63,8 +69,10 @@ impl Session {
         }
     }
 
-    // The record line of a call; none for a line without one.
-    pub fn line(&mut self, text: &str) -> Result<Option<String>, AllocError> {
+    // The record line of a call; none for a line without one, which leaves the session as it was.
+    pub fn line(&mut self, text: &str) -> Result<Option<String>, AllocError>
+        ensures skipped { λ r. ⌜ made r (λ o. Cases o (now (self .exit) ≡ now (self .entry)) (λ _. Unit {0})) ⌝ }
+    {
         let mut parts = text.split('#');
         let Some(code) = parts.next() else {
             return Ok(None);
