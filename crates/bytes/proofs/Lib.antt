@@ -2,3 +2,4 @@ pub mod Runs
 pub mod Lent
 pub mod Octets
 pub mod Numbers
+pub mod Fields

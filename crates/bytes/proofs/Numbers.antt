@@ -4,7 +4,7 @@ use mathlib.Core.List.{List, [], _∷_, _++_}
 use mathlib.Core.Logic.{_⊎_, inl, inr}
 use Prim.Native.Nat.{ℕ, zero, suc, _+_, _-_, _*_, _/_, _%_, _^_, _≤_, _<_}
 use native.Mathlib.Omega.{arith}
-use native.Mathlib.Nat.{pow-succ', mod-eq-of-lt, mod-one, mul-assoc, add-mul, add-zero, div-one}
+use native.Mathlib.Nat.{pow-succ', mod-eq-of-lt, mod-one, mul-assoc, add-mul, add-zero, zero-add, div-one}
 use lib.Arith.{mod-mul, digits-div, digits-mod, digits-lt}
 use lib.Dec.{leb}
 use lib.ListN.{length, getD, drop, length-drop}
@@ -188,3 +188,9 @@ found-is bs at w x h e = ap (λ n. Some n) e ∙ sym (cond-true (leb (at + w) (l
 pub spell-is : (bs : List ℕ) (at w x n : ℕ) (new : List ℕ) → n ≡ w → new ≡ be-bytes w x → putMid at n bs new ≡ spell bs at w x
 unfolding spell
 spell-is bs at w x n new e f = put-mid bs at n new (e ∙ sym (ap length f ∙ length-be-bytes w x)) ∙ ap (put bs at) f
+
+-- the low bytes of a number are its last ones
+pub be-bytes-last : (k w x : ℕ) → drop k (be-bytes (k + w) x) ≡ be-bytes w x
+unfolding be-bytes
+be-bytes-last zero w x = ap (λ n. be-bytes n x) (zero-add w)
+be-bytes-last (suc k) w x = let e : suc k + w ≡ suc (k + w) = omega arith in ap (λ n. drop (suc k) (be-bytes n x)) e ∙ be-bytes-last k w x

@@ -7,6 +7,14 @@ ghost use lib.ListN.{length};
 ghost use Rattle.bytes.specs.Runs.{Octets};
 ghost use Rattle.bytes.specs.Numbers.{found, spell};
 
+// A big-endian number of some bytes at a place.
+#[derive(Clone, Copy, PartialEq, Eq, Debug)]
+pub struct Field {
+    pub at: u64,
+    pub wide: u8,
+    pub value: u64,
+}
+
 // Whether n bytes from `at` on lie in a list of `len`.
 fn inside(at: usize, n: usize, len: usize) -> bool
     ensures value { λ r. ⌜ r ≡ leb (at + n) len ⌝ }

@@ -33,13 +33,13 @@ fn within(at: u64, n: u64, length: u64) -> bool
 }
 
 impl Numbers {
-    fn version_good(self) -> bool
+    pub fn version_good(self) -> bool
         ensures value { λ r. ⌜ r ≡ version-good self ⌝ }
     {
         self.version == 2 || self.version == 3
     }
 
-    fn bits_good(self) -> bool
+    pub fn bits_good(self) -> bool
         ensures value { λ r. ⌜ r ≡ bits-good self ⌝ }
     {
         9 <= self.bits && self.bits <= 21
@@ -61,7 +61,7 @@ impl Numbers {
                 && self.header % 8 == 0)
     }
 
-    fn size_good(self) -> bool
+    pub fn size_good(self) -> bool
         ensures value { λ r. ⌜ r ≡ size-good self ⌝ }
     {
         self.size != 0 && self.size % 512 == 0 && self.needed_entries() <= self.table_entries()

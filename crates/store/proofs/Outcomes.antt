@@ -15,6 +15,8 @@ use Rattle.fault.specs.declared.Layer.the-variants.{Store}
 use Rattle.fault.specs.declared.Reason.the-variants.{PastStore, Growth}
 use Rattle.fault.specs.Faults.{fault}
 use Rattle.bytes.specs.Runs.{run, put, grow}
+use Rattle.fault.specs.Outcomes.{Gives}
+use Rattle.store.specs.Calls.{after}
 use Rattle.store.specs.Stores.{load, stored, grown}
 
 never : (y : List ℕ) (f : Fault) (r : Result (List ℕ) Fault) → r ≡ Ok y → r ≡ Err f → ⊥
@@ -52,3 +54,8 @@ front-within bs m k h = (omega (arith, length-take m bs), omega (arith, length-t
 -- a test that passed, of a length that the code had by another name
 pub passed : (a n m : ℕ) → true ≡ leb a n → n ≡ m → a ≤ m
 passed a n m t e = omega (arith, leb-true a n (sym t), e)
+
+-- what a call left, whether it was refused or not
+pub left-after : (r : Result (Unit {0}) Fault) (outcome : Result (List ℕ) Fault) (before after′ : List ℕ) → Gives r outcome before after′ → after′ ≡ after before outcome
+left-after (Ok u) outcome before after′ g = sym (ap (after before) g)
+left-after (Err e) outcome before after′ g = g .1 ∙ sym (ap (after before) (g .0))

@@ -1,0 +1,6 @@
+mod Laying
+mod Wishes
+mod Lists
+mod Filling
+mod Judged
+mod Good

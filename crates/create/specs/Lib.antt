@@ -1,0 +1,2 @@
+pub mod Create
+pub mod Laid
