@@ -5,7 +5,7 @@
 --   header   the judgement of a store's bytes
 use mathlib.Core.Bool.{Bool, true, false, cond, _&&_, _||_, not}
 use mathlib.Core.List.{List, [], _∷_}
-use Prim.Native.Nat.{ℕ, _+_, _-_, _*_, _/_, _%_, _^_}
+use Prim.Native.Nat.{ℕ, _+_, _-_, _*_, _/_, _%_, _^_, min}
 use lib.Dec.{eqb, leb, ltb}
 use lib.ListN.{length, getD}
 use Rattle.std.specs.declared.result.Result.{Result}
@@ -19,7 +19,7 @@ use Rattle.fault.specs.Faults.{fault}
 use Rattle.fault.specs.Outcomes.{andThen}
 use Rattle.bytes.specs.Numbers.{number}
 use Rattle.format.specs.declared.numbers.Numbers.{Numbers}
-use Rattle.format.specs.Clusters.{cluster, per-table, span-of, begun}
+use Rattle.format.specs.Clusters.{cluster, cluster-of, per-table, span-of, begun}
 
 -- the number at an offset, in bytes that begin at offset k
 abbrev pub at-offset : ℕ → List ℕ → ℕ → ℕ → ℕ
@@ -130,3 +130,15 @@ header-of first len = andThen (good (opens first) NotQcow2 0) λ _. judged (fiel
 
 abbrev pub header : List ℕ → Result Numbers Fault
 header bs = header-of bs (length bs)
+
+-- the cluster bits that the first bytes claim, if they are good ones
+abbrev pub claimed : List ℕ → Bool
+claimed first = leb 24 (length first) && (leb 9 (number first 20 4) && leb (number first 20 4) 21)
+
+-- n filled up to a multiple of c, held at the largest number of 64 bits
+abbrev pub filled-up : ℕ → ℕ → ℕ
+filled-up n c = cond (eqb (n % c) 0) n (min (2 ^ 64 - 1) (n + (c - n % c)))
+
+-- the length of a file whose last, part cluster is filled up with zeros
+abbrev pub filled-length : List ℕ → ℕ → ℕ
+filled-length first len = cond (claimed first) (filled-up len (cluster-of (number first 20 4))) len

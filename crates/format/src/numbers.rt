@@ -1,7 +1,7 @@
 // The numbers of a header, and what follows from them.
 ghost use Prim.Native.Nat.{_^_, _/_, _≤_};
 ghost use mathlib.Core.Path.{_≡_};
-ghost use Rattle.format.specs.Clusters.{cluster, per-table, sectors as sectorsOf};
+ghost use Rattle.format.specs.Clusters.{cluster, cluster-of, per-table, sectors as sectorsOf};
 ghost use Rattle.format.specs.Header.{needed};
 
 #[derive(Clone, Copy, PartialEq, Eq, Debug)]
@@ -32,14 +32,22 @@ pub struct Numbers {
     pub header: u32,
 }
 
+// A cluster's bytes; the bits are held between 9 and 21, which a good header's are.
+pub(crate) fn cluster_of(bits: u32) -> u64
+    ensures value { λ r. ⌜ r ≡ cluster-of bits ⌝ }
+    ensures least { λ r. ⌜ 512 ≤ r ⌝ }
+    ensures most { λ r. ⌜ r ≤ 2 ^ 21 ⌝ }
+{
+    1u64 << bits.min(21).max(9)
+}
+
 impl Numbers {
-    // The bits are held between 9 and 21, which a good header's are.
     pub fn cluster_size(self) -> u64
         ensures value { λ r. ⌜ r ≡ cluster self ⌝ }
         ensures least { λ r. ⌜ 512 ≤ r ⌝ }
         ensures most { λ r. ⌜ r ≤ 2 ^ 21 ⌝ }
     {
-        1u64 << self.bits.min(21).max(9)
+        cluster_of(self.bits)
     }
 
     // The entries of an L1 or L2 table.

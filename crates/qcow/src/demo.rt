@@ -1,4 +1,5 @@
-// The default task: a store and a disk of each kind, used, with what each answered.
+// The default task: a store and a disk of each kind and a new image, with what each answered.
+use create::create;
 use disk::Disk;
 use disk::RawDisk;
 use disk::RawDiskDisk;
@@ -8,6 +9,8 @@ use disk::ZerosDisk;
 use disk::ZerosDiskDisk;
 use fault::Fault;
 use fault::FaultDisplay;
+use format::Numbers;
+use image::Mount;
 use std::error::AnyError;
 use store::FlatStore;
 use store::FlatStoreStore;
@@ -94,6 +97,52 @@ fn compare(rt: &LibcRuntime) -> Result<(), AnyError> {
     Ok(())
 }
 
+// A new image, mounted; the same store once more; and a store that holds no image.
+fn use_image(rt: &LibcRuntime) -> Result<(), AnyError> {
+    let mut list = [0u8; 4096];
+    let mut s = FlatStore::new(&mut list, 0);
+    report(
+        rt,
+        "create version 3, 512 byte clusters, 64 KiB",
+        create(&mut s, 3, 9, 65536, b"master.raw"),
+    )?;
+    report(
+        rt,
+        "create in the same store",
+        create(&mut s, 3, 9, 65536, b""),
+    )?;
+    let m = Mount::new(s, ZerosDisk::new(0));
+    match m.numbers() {
+        Ok(n) => {
+            let Numbers {
+                version,
+                size,
+                entries,
+                l1,
+                refcounts,
+                letters,
+                ..
+            } = n;
+            let c = n.cluster_size();
+            println!(
+                rt,
+                "  version {version}, {size} guest bytes, clusters of {c}, a backing name of {letters} bytes"
+            )?;
+            println!(
+                rt,
+                "  L1 table of {entries} entries at {l1}, refcount table at {refcounts}"
+            )?;
+        }
+        Err(f) => report(rt, "mount", Err(f))?,
+    }
+    let mut other = [0u8; 1024];
+    let m = Mount::new(FlatStore::new(&mut other, 1024), ZerosDisk::new(0));
+    match m.numbers() {
+        Ok(_) => Ok(()),
+        Err(f) => report(rt, "mount a store of zeros", Err(f)),
+    }
+}
+
 pub fn run(rt: &LibcRuntime) -> Result<(), AnyError> {
     let mut whole = [9u8; 16];
     let mut flat = FlatStore::new(&mut whole, 8);
@@ -111,5 +160,7 @@ pub fn run(rt: &LibcRuntime) -> Result<(), AnyError> {
     rt.println("raw disk")?;
     use_disk(rt, &RawDisk::new(&content), 1)?;
     rt.println("rescued disk")?;
-    use_disk(rt, &RescuedDisk::new(&content, &[1]), 1)
+    use_disk(rt, &RescuedDisk::new(&content, &[1]), 1)?;
+    rt.println("image")?;
+    use_image(rt)
 }

@@ -1,15 +1,21 @@
-// The program: its arguments name a task; without any it shows stores and disks at work.
+// The program: its first argument names a task; without any it shows what it can do.
+mod args;
+mod create;
 mod demo;
+mod files;
+mod info;
 mod scripts;
 
 use std::env;
 use std::error::AnyError;
 
 fn usage(rt: &LibcRuntime) -> Result<(), AnyError> {
-    rt.eprintln("usage: qcow [script]")?;
-    rt.eprintln("  qcow           stores and disks at work")?;
-    rt.eprintln("  qcow script    runs the calls on standard input, a line each")?;
-    Err("unknown arguments".into())
+    rt.eprintln("usage:")?;
+    rt.eprintln("  qcow              shows stores, disks and images at work")?;
+    eprintln!(rt, "  {}", create::USAGE)?;
+    eprintln!(rt, "  {}", info::USAGE)?;
+    rt.eprintln("  qcow script       runs the calls on standard input, a line each")?;
+    Err("no such task".into())
 }
 
 fn run(rt: &LibcRuntime) -> Result<(), AnyError> {
@@ -18,7 +24,13 @@ fn run(rt: &LibcRuntime) -> Result<(), AnyError> {
     let Some(task) = args.next() else {
         return demo::run(rt);
     };
+    let mut given = Vec::new(rt.alloc());
+    for word in args {
+        given.push(word)?;
+    }
     match task.as_str() {
+        "create" => create::run(rt, given),
+        "info" => info::run(rt, given),
         "script" => scripts::run(rt),
         _ => usage(rt),
     }

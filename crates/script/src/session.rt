@@ -1,30 +1,24 @@
-// A session: the store and the disk that the lines speak of, and what each line does.
+// A session: the store, the mount and the disk that the lines speak of, and what each line does.
 ghost use mathlib.Core.Path.{_≡_};
 ghost use Rattle.std.specs.Of.Vec.{vec-len};
 ghost use Rattle.std.specs.Options.{Cases};
 ghost use Rattle.std.specs.Vec.{made};
+
+mod disks;
+mod images;
+mod stores;
+
 use crate::answer::Answer;
 use crate::answer::NO_BYTES;
 use crate::answer::digest;
 use crate::words;
-use disk::Disk;
-use disk::RawDisk;
-use disk::RawDiskDisk;
-use disk::RescuedDisk;
-use disk::RescuedDiskDisk;
-use disk::ZerosDisk;
-use disk::ZerosDiskDisk;
 use fault::Fault;
+use format::Numbers;
 use std::alloc::AllocError;
 use std::alloc::Global;
-use store::FlatStore;
-use store::FlatStoreStore;
-use store::SplitStore;
-use store::SplitStoreStore;
-use store::Store;
 
 // Buffers hold this in every byte before a call, so that what has to stay is seen to stay.
-const BLANK: u8 = 0xee;
+pub(crate) const BLANK: u8 = 0xee;
 
 #[derive(Clone, Copy)]
 enum StoreKind {
@@ -40,6 +34,13 @@ enum DiskKind {
     Rescued,
 }
 
+// What a mount has of its own: its judgement of the header, and its clean mark.
+#[derive(Clone, Copy)]
+struct Mounted {
+    header: Result<Numbers, Fault>,
+    clean: bool,
+}
+
 #[derive(Drop)]
 pub struct Session {
     heap: Global,
@@ -47,6 +48,7 @@ pub struct Session {
     front: Vec<u8>,
     back: Vec<u8>,
     used: usize,
+    mounted: Option<Mounted>,
     disk: DiskKind,
     content: Vec<u8>,
     spoiled: Vec<u64>,
@@ -63,6 +65,7 @@ impl Session {
             front: Vec::new(heap),
             back: Vec::new(heap),
             used: 0,
+            mounted: None,
             disk: DiskKind::Zeros(0),
             content: Vec::new(heap),
             spoiled: Vec::new(heap),
@@ -114,129 +117,14 @@ impl Session {
                 self.ask_store(name, args)
             }
             "disk-sectors" | "disk-read" => self.ask_disk(name, args),
+            "create" => self.create_image(args),
+            "mount" => self.mount_store(),
             _ => Ok(Answer::Mistake("unknown word")),
         }
     }
-
-    fn make_flat(&mut self, args: &[&str]) -> Result<Answer, AllocError> {
-        let Some(limit) = number_at(args, 0) else {
-            return Ok(Answer::Mistake("store-flat LIMIT [BYTES]"));
-        };
-        let Some(content) = bytes_at(self.heap, args, 1)? else {
-            return Ok(Answer::Mistake("store-flat LIMIT [BYTES]"));
-        };
-        self.lay_out(limit, 0, content.as_slice())?;
-        self.kind = StoreKind::Flat;
-        Ok(Answer::Done)
-    }
-
-    fn make_split(&mut self, args: &[&str]) -> Result<Answer, AllocError> {
-        let (Some(first), Some(second)) = (number_at(args, 0), number_at(args, 1)) else {
-            return Ok(Answer::Mistake("store-split LIMIT1 LIMIT2 [BYTES]"));
-        };
-        let Some(content) = bytes_at(self.heap, args, 2)? else {
-            return Ok(Answer::Mistake("store-split LIMIT1 LIMIT2 [BYTES]"));
-        };
-        self.lay_out(first, second, content.as_slice())?;
-        self.kind = StoreKind::Split;
-        Ok(Answer::Done)
-    }
-
-    // Lists of these lengths, the content at their front, the rest blank.
-    fn lay_out(&mut self, first: u64, second: u64, content: &[u8]) -> Result<(), AllocError> {
-        let mut front = vec![in self.heap; BLANK; first as usize]?;
-        let mut back = vec![in self.heap; BLANK; second as usize]?;
-        let n = content.len().min(front.len());
-        let m = (content.len() - n).min(back.len());
-        copy_front(front.as_mut_slice(), &content[0..n]);
-        copy_front(back.as_mut_slice(), &content[n..n + m]);
-        self.front = front;
-        self.back = back;
-        self.used = n + m;
-        Ok(())
-    }
-
-    fn make_zeros(&mut self, args: &[&str]) -> Result<Answer, AllocError> {
-        let Some(sectors) = number_at(args, 0) else {
-            return Ok(Answer::Mistake("disk-zeros SECTORS"));
-        };
-        self.disk = DiskKind::Zeros(sectors);
-        Ok(Answer::Done)
-    }
-
-    fn make_raw(&mut self, args: &[&str]) -> Result<Answer, AllocError> {
-        let (1, Some(content)) = (args.len(), bytes_at(self.heap, args, 0)?) else {
-            return Ok(Answer::Mistake("disk-raw BYTES"));
-        };
-        self.content = content;
-        self.disk = DiskKind::Raw;
-        Ok(Answer::Done)
-    }
-
-    fn make_rescued(&mut self, args: &[&str]) -> Result<Answer, AllocError> {
-        let (Some(content), Some(spoiled)) = (
-            bytes_at(self.heap, args, 0)?,
-            numbers_at(self.heap, args, 1)?,
-        ) else {
-            return Ok(Answer::Mistake("disk-rescued BYTES SPOILED"));
-        };
-        self.content = content;
-        self.spoiled = spoiled;
-        self.disk = DiskKind::Rescued;
-        Ok(Answer::Done)
-    }
-
-    fn ask_store(&mut self, name: &str, args: &[&str]) -> Result<Answer, AllocError> {
-        let used = self.used;
-        match self.kind {
-            StoreKind::Missing => Ok(Answer::Mistake("no store")),
-            StoreKind::Flat => {
-                let mut s = FlatStore::new(self.front.as_mut_slice(), used);
-                let answer = store_call(self.heap, &mut s, name, args)?;
-                let now = s.length();
-                self.used = now as usize;
-                Ok(answer)
-            }
-            StoreKind::Split => {
-                let mut s = SplitStore::new(
-                    self.front.as_mut_slice(),
-                    self.back.as_mut_slice(),
-                    used,
-                );
-                let answer = store_call(self.heap, &mut s, name, args)?;
-                let now = s.length();
-                self.used = now as usize;
-                Ok(answer)
-            }
-        }
-    }
-
-    fn ask_disk(&self, name: &str, args: &[&str]) -> Result<Answer, AllocError> {
-        match self.disk {
-            DiskKind::Zeros(n) => disk_call(self.heap, &ZerosDisk::new(n), name, args),
-            DiskKind::Raw => disk_call(
-                self.heap,
-                &RawDisk::new(self.content.as_slice()),
-                name,
-                args,
-            ),
-            DiskKind::Rescued => {
-                let d = RescuedDisk::new(self.content.as_slice(), self.spoiled.as_slice());
-                disk_call(self.heap, &d, name, args)
-            }
-        }
-    }
 }
 
-fn copy_front(list: &mut [u8], content: &[u8]) {
-    for (i, b) in content.iter().enumerate() {
-        if i < list.len() {
-            list[i] = *b;
-        }
-    }
-}
-
-fn number_at(args: &[&str], i: usize) -> Option<u64> {
+pub(crate) fn number_at(args: &[&str], i: usize) -> Option<u64> {
     if i < args.len() {
         words::number(args[i])
     } else {
@@ -244,8 +132,24 @@ fn number_at(args: &[&str], i: usize) -> Option<u64> {
     }
 }
 
+pub(crate) fn text_at(
+    heap: Global,
+    args: &[&str],
+    i: usize,
+) -> Result<Option<Vec<u8>>, AllocError> {
+    if i < args.len() {
+        words::text(heap, args[i])
+    } else {
+        Ok(None)
+    }
+}
+
 // Bytes that are left out are none.
-fn bytes_at(heap: Global, args: &[&str], i: usize) -> Result<Option<Vec<u8>>, AllocError> {
+pub(crate) fn bytes_at(
+    heap: Global,
+    args: &[&str],
+    i: usize,
+) -> Result<Option<Vec<u8>>, AllocError> {
     if i < args.len() {
         words::bytes(heap, args[i])
     } else {
@@ -253,7 +157,11 @@ fn bytes_at(heap: Global, args: &[&str], i: usize) -> Result<Option<Vec<u8>>, Al
     }
 }
 
-fn numbers_at(heap: Global, args: &[&str], i: usize) -> Result<Option<Vec<u64>>, AllocError> {
+pub(crate) fn numbers_at(
+    heap: Global,
+    args: &[&str],
+    i: usize,
+) -> Result<Option<Vec<u64>>, AllocError> {
     if i < args.len() {
         words::numbers(heap, args[i])
     } else {
@@ -261,7 +169,7 @@ fn numbers_at(heap: Global, args: &[&str], i: usize) -> Result<Option<Vec<u64>>,
     }
 }
 
-fn done(r: Result<(), Fault>) -> Answer {
+pub(crate) fn done(r: Result<(), Fault>) -> Answer {
     match r {
         Ok(()) => Answer::Done,
         Err(f) => Answer::Refused(f),
@@ -269,7 +177,7 @@ fn done(r: Result<(), Fault>) -> Answer {
 }
 
 // The buffer after a read that was accepted or refused.
-fn filled(r: Result<(), Fault>, buffer: Vec<u8>) -> Answer {
+pub(crate) fn filled(r: Result<(), Fault>, buffer: Vec<u8>) -> Answer {
     match r {
         Ok(()) => Answer::Bytes(buffer),
         Err(f) => {
@@ -281,57 +189,4 @@ fn filled(r: Result<(), Fault>, buffer: Vec<u8>) -> Answer {
             Answer::Refused(f)
         }
     }
-}
-
-fn store_call<S: Store>(
-    heap: Global,
-    s: &mut S,
-    name: &str,
-    args: &[&str],
-) -> Result<Answer, AllocError> {
-    match name {
-        "store-length" => Ok(Answer::Number(s.length())),
-        "store-limit" => Ok(Answer::Number(s.limit())),
-        "store-read" => store_read(heap, s, args),
-        "store-replace" => {
-            let (Some(first), Some(new)) = (number_at(args, 0), bytes_at(heap, args, 1)?) else {
-                return Ok(Answer::Mistake("store-replace FIRST BYTES"));
-            };
-            Ok(done(s.replace(first, new.as_slice())))
-        }
-        _ => {
-            let Some(length) = number_at(args, 0) else {
-                return Ok(Answer::Mistake("store-grow LENGTH"));
-            };
-            Ok(done(s.grow(length)))
-        }
-    }
-}
-
-fn store_read<S: Store>(heap: Global, s: &S, args: &[&str]) -> Result<Answer, AllocError> {
-    let (Some(first), Some(count)) = (number_at(args, 0), number_at(args, 1)) else {
-        return Ok(Answer::Mistake("store-read FIRST COUNT"));
-    };
-    // a longer run than the store's whole is refused just as one byte more than the whole is
-    let n = count.min(s.length().saturating_add(1));
-    let mut buffer = vec![in heap; BLANK; n as usize]?;
-    let r = s.read(first, buffer.as_mut_slice());
-    Ok(filled(r, buffer))
-}
-
-fn disk_call<D: Disk>(
-    heap: Global,
-    d: &D,
-    name: &str,
-    args: &[&str],
-) -> Result<Answer, AllocError> {
-    if name == "disk-sectors" {
-        return Ok(Answer::Number(d.sectors()));
-    }
-    let Some(sector) = number_at(args, 0) else {
-        return Ok(Answer::Mistake("disk-read SECTOR"));
-    };
-    let mut buffer = [BLANK; 512];
-    let r = d.read_sector(sector, &mut buffer);
-    Ok(filled(r, Vec::from_slice(heap, &buffer)?))
 }

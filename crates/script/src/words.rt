@@ -1,4 +1,7 @@
-// The words of a line: numbers, bytes, lists of numbers.
+// The words of a line: numbers, bytes, texts, lists of numbers.
+ghost use Prim.Native.Nat.{_<_, _≤_};
+ghost use lib.ListN.{length};
+ghost use Rattle.std.specs.Options.{Cases};
 use std::alloc::AllocError;
 use std::alloc::Global;
 
@@ -55,6 +58,39 @@ pub(crate) fn bytes(heap: Global, word: &str) -> Result<Option<Vec<u8>>, AllocEr
         return Ok(None);
     }
     Ok(Some(all))
+}
+
+// A text as it is, `-` for none, %XX for a byte that is not printable.
+pub(crate) fn text(heap: Global, word: &str) -> Result<Option<Vec<u8>>, AllocError> {
+    let mut all = Vec::new(heap);
+    if word == "-" {
+        return Ok(Some(all));
+    }
+    let letters = word.as_bytes();
+    let mut i = 0;
+    while i < letters.len() {
+        let Some((byte, width)) = letter(&letters[i..letters.len()]) else {
+            return Ok(None);
+        };
+        all.push(byte)?;
+        i += width;
+    }
+    Ok(Some(all))
+}
+
+// The first byte that a text spells, and how many letters that takes.
+fn letter(letters: &[u8]) -> Option<(u8, usize)>
+    ensures width { λ r. ⌜ Cases r (Unit {0}) (λ p. (0 < p .1) × (p .1 ≤ length (now (letters .entry)))) ⌝ }
+{
+    match letters {
+        [b'%', high, low, ..] => Some((
+            (hexadecimal(*high)? & 15) * 16 + (hexadecimal(*low)? & 15),
+            3,
+        )),
+        [b'%', ..] => None,
+        [plain, ..] => Some((*plain, 1)),
+        [] => None,
+    }
 }
 
 // Numbers with commas between them, `-` for none.
