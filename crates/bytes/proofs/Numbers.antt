@@ -140,7 +140,7 @@ first : (bs : List ℕ) (at n : ℕ) → 0 < n → getD (run bs at n) 0 0 ≡ ge
 first bs at n h = getD-run bs at n 0 h ∙ ap (λ k. getD bs k 0) (add-zero at)
 
 -- numbers of 2, 4 and 8 bytes in a list, as the machine makes them
-be-two : (b : List ℕ) → length b ≡ 2 → be b ≡ getD b 0 0 * 256 + getD b 1 0
+pub be-two : (b : List ℕ) → length b ≡ 2 → be b ≡ getD b 0 0 * 256 + getD b 1 0
 be-two b e = omega (arith, none-left b 2 e, digit b 0 1 (omega arith), digit b 1 0 (omega arith))
 
 pub number-two : (bs : List ℕ) (at : ℕ) → at + 2 ≤ length bs → number bs at 2 ≡ getD bs at 0 * 256 + getD bs (at + 1) 0
@@ -149,7 +149,7 @@ number-two bs at h =
     be-two (run bs at 2) (length-run bs at 2 h)
     ∙ omega (arith, first bs at 2 (omega arith), getD-run bs at 2 1 (omega arith))
 
-be-four : (b : List ℕ) → length b ≡ 4 → be b ≡ getD b 0 0 * 16777216 + getD b 1 0 * 65536 + getD b 2 0 * 256 + getD b 3 0
+pub be-four : (b : List ℕ) → length b ≡ 4 → be b ≡ getD b 0 0 * 16777216 + getD b 1 0 * 65536 + getD b 2 0 * 256 + getD b 3 0
 be-four b e = omega (arith, none-left b 4 e, digit b 0 3 (omega arith), digit b 1 2 (omega arith), digit b 2 1 (omega arith), digit b 3 0 (omega arith))
 
 pub number-four : (bs : List ℕ) (at : ℕ) → at + 4 ≤ length bs → number bs at 4 ≡ getD bs at 0 * 16777216 + getD bs (at + 1) 0 * 65536 + getD bs (at + 2) 0 * 256 + getD bs (at + 3) 0
@@ -158,7 +158,7 @@ number-four bs at h =
     be-four (run bs at 4) (length-run bs at 4 h)
     ∙ omega (arith, first bs at 4 (omega arith), getD-run bs at 4 1 (omega arith), getD-run bs at 4 2 (omega arith), getD-run bs at 4 3 (omega arith))
 
-be-eight : (b : List ℕ) → length b ≡ 8 → be b ≡ getD b 0 0 * 72057594037927936 + getD b 1 0 * 281474976710656 + getD b 2 0 * 1099511627776 + getD b 3 0 * 4294967296 + getD b 4 0 * 16777216 + getD b 5 0 * 65536 + getD b 6 0 * 256 + getD b 7 0
+pub be-eight : (b : List ℕ) → length b ≡ 8 → be b ≡ getD b 0 0 * 72057594037927936 + getD b 1 0 * 281474976710656 + getD b 2 0 * 1099511627776 + getD b 3 0 * 4294967296 + getD b 4 0 * 16777216 + getD b 5 0 * 65536 + getD b 6 0 * 256 + getD b 7 0
 be-eight b e = omega (arith, none-left b 8 e, digit b 0 7 (omega arith), digit b 1 6 (omega arith), digit b 2 5 (omega arith), digit b 3 4 (omega arith), digit b 4 3 (omega arith), digit b 5 2 (omega arith), digit b 6 1 (omega arith), digit b 7 0 (omega arith))
 
 pub number-eight : (bs : List ℕ) (at : ℕ) → at + 8 ≤ length bs → number bs at 8 ≡ getD bs at 0 * 72057594037927936 + getD bs (at + 1) 0 * 281474976710656 + getD bs (at + 2) 0 * 1099511627776 + getD bs (at + 3) 0 * 4294967296 + getD bs (at + 4) 0 * 16777216 + getD bs (at + 5) 0 * 65536 + getD bs (at + 6) 0 * 256 + getD bs (at + 7) 0

@@ -1,3 +1,3 @@
-mod Sounds
+pub mod Sounds
 mod Sectors
 mod Spoilt

@@ -21,7 +21,7 @@ use Rattle.disk.specs.Readings.{Reading, Sound, shown, past-end}
 use Rattle.disk.specs.Disks.{zeros-reading, raw-reading, rescued-reading, sector, sectors-of, spoilt}
 use Rattle.disk.proofs.Sectors.{length-sector, octets-sector}
 
-abbrev Whole : Result (List ℕ) Fault → Type 0
+abbrev pub Whole : Result (List ℕ) Fault → Type 0
 Whole r = made r (λ bs. (length bs ≡ 512) × Octets bs)
 
 -- answers that are whole make a sound reading

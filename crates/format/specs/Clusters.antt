@@ -2,6 +2,7 @@
 --   held-bits   the cluster bits, held between 9 and 21, which a good header's are
 --   cluster     the cluster size c
 --   per-table   the entries of an L1 or L2 table: c / 8
+--   per-cluster the sectors of a cluster: c / 512
 --   span        the guest bytes under one L1 entry: c * (c / 8)
 --   begun       the parts of k that n begins
 --   sectors     the guest's sectors
@@ -21,6 +22,9 @@ cluster n = cluster-of (n .bits)
 
 abbrev pub per-table : Numbers → ℕ
 per-table n = cluster n / 8
+
+abbrev pub per-cluster : Numbers → ℕ
+per-cluster n = cluster n / 512
 
 abbrev pub begun : ℕ → ℕ → ℕ
 begun n k = n / k + cond (eqb (n % k) 0) 0 1

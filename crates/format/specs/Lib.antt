@@ -1,2 +1,3 @@
 pub mod Clusters
 pub mod Header
+pub mod Entries

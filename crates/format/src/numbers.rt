@@ -1,7 +1,7 @@
 // The numbers of a header, and what follows from them.
 ghost use Prim.Native.Nat.{_^_, _/_, _≤_};
 ghost use mathlib.Core.Path.{_≡_};
-ghost use Rattle.format.specs.Clusters.{cluster, cluster-of, per-table, sectors as sectorsOf};
+ghost use Rattle.format.specs.Clusters.{cluster, cluster-of, per-table, per-cluster, sectors as sectorsOf};
 ghost use Rattle.format.specs.Header.{needed};
 
 #[derive(Clone, Copy, PartialEq, Eq, Debug)]
@@ -57,6 +57,15 @@ impl Numbers {
         ensures most { λ r. ⌜ r ≤ 2 ^ 18 ⌝ }
     {
         self.cluster_size() / 8
+    }
+
+    // The sectors of a cluster.
+    pub fn cluster_sectors(self) -> u64
+        ensures value { λ r. ⌜ r ≡ per-cluster self ⌝ }
+        ensures least { λ r. ⌜ 1 ≤ r ⌝ }
+        ensures most { λ r. ⌜ r ≤ 2 ^ 12 ⌝ }
+    {
+        self.cluster_size() / 512
     }
 
     // The guest's sectors.

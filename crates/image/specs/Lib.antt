@@ -1,1 +1,3 @@
 pub mod Honest
+pub mod Shown
+pub mod Calls

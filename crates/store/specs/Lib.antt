@@ -2,3 +2,4 @@ pub mod Stores
 pub mod Flat
 pub mod Split
 pub mod Calls
+pub mod Words
