@@ -119,6 +119,7 @@ impl Session {
             "disk-sectors" | "disk-read" => self.ask_disk(name, args),
             "create" => self.create_image(args),
             "mount" => self.mount_store(),
+            "read" => self.read_mounted(args),
             _ => Ok(Answer::Mistake("unknown word")),
         }
     }
@@ -129,6 +130,15 @@ pub(crate) fn number_at(args: &[&str], i: usize) -> Option<u64> {
         words::number(args[i])
     } else {
         None
+    }
+}
+
+// A number that may be left out.
+pub(crate) fn number_or(args: &[&str], i: usize, otherwise: u64) -> Option<u64> {
+    if i < args.len() {
+        words::number(args[i])
+    } else {
+        Some(otherwise)
     }
 }
 

@@ -1,14 +1,23 @@
 // Lines that make an image or mount one.
+use super::BLANK;
+use super::DiskKind;
 use super::Mounted;
 use super::Session;
 use super::StoreKind;
 use super::done;
+use super::filled;
 use super::number_at;
+use super::number_or;
 use super::text_at;
 use crate::answer::Answer;
 use create::create;
+use disk::RawDisk;
+use disk::RawDiskDisk;
+use disk::RescuedDisk;
+use disk::RescuedDiskDisk;
 use disk::ZerosDisk;
 use disk::ZerosDiskDisk;
+use fault::Fault;
 use image::Mount;
 use std::alloc::AllocError;
 use store::FlatStore;
@@ -16,6 +25,14 @@ use store::FlatStoreStore;
 use store::SplitStore;
 use store::SplitStoreStore;
 use store::Store;
+
+// The current disk, lent.
+#[derive(Clone, Copy)]
+struct Base<'a> {
+    kind: DiskKind,
+    content: &'a [u8],
+    spoiled: &'a [u64],
+}
 
 // What a new mount of the store judges; the backing disk plays no part in that.
 fn judged<S: Store + Drop>(store: S) -> Mounted {
@@ -26,7 +43,68 @@ fn judged<S: Store + Drop>(store: S) -> Mounted {
     }
 }
 
+// The mount that the session holds, over a store and a disk that are lent for one call.
+fn mounted_over<S, B>(mounted: Mounted, store: S, backing: B) -> Mount<S, B> {
+    Mount {
+        store,
+        backing,
+        header: mounted.header,
+        clean: mounted.clean,
+    }
+}
+
+fn read_over<S: Store + Drop>(
+    mounted: Mounted,
+    store: S,
+    base: Base,
+    sector: u64,
+    buffer: &mut [u8],
+) -> Result<(), Fault> {
+    match base.kind {
+        DiskKind::Zeros(n) => mounted_over(mounted, store, ZerosDisk::new(n)).read(sector, buffer),
+        DiskKind::Raw => mounted_over(mounted, store, RawDisk::new(base.content)).read(
+            sector,
+            buffer,
+        ),
+        DiskKind::Rescued => {
+            mounted_over(mounted, store, RescuedDisk::new(base.content, base.spoiled)).read(
+                sector,
+                buffer,
+            )
+        }
+    }
+}
+
 impl Session {
+    pub(super) fn read_mounted(&mut self, args: &[&str]) -> Result<Answer, AllocError> {
+        let (Some(sector), Some(length)) = (number_at(args, 0), number_or(args, 1, 512)) else {
+            return Ok(Answer::Mistake("read SECTOR [LENGTH]"));
+        };
+        let Some(mounted) = self.mounted else {
+            return Ok(Answer::Mistake("no mount"));
+        };
+        // any other length than 512 is refused, however large
+        let mut buffer = vec![in self.heap; BLANK; length.min(4096) as usize]?;
+        let used = self.used;
+        let base = Base {
+            kind: self.disk,
+            content: self.content.as_slice(),
+            spoiled: self.spoiled.as_slice(),
+        };
+        let r = match self.kind {
+            StoreKind::Missing => return Ok(Answer::Mistake("no store")),
+            StoreKind::Flat => {
+                let s = FlatStore::new(self.front.as_mut_slice(), used);
+                read_over(mounted, s, base, sector, buffer.as_mut_slice())
+            }
+            StoreKind::Split => {
+                let s = SplitStore::new(self.front.as_mut_slice(), self.back.as_mut_slice(), used);
+                read_over(mounted, s, base, sector, buffer.as_mut_slice())
+            }
+        };
+        Ok(filled(r, buffer))
+    }
+
     pub(super) fn mount_store(&mut self) -> Result<Answer, AllocError> {
         let used = self.used;
         let mounted = match self.kind {
