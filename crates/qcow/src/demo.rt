@@ -11,6 +11,7 @@ use fault::Fault;
 use fault::FaultDisplay;
 use format::Numbers;
 use image::Mount;
+use image::MountDisk;
 use std::error::AnyError;
 use store::FlatStore;
 use store::FlatStoreStore;
@@ -111,7 +112,8 @@ fn use_image(rt: &LibcRuntime) -> Result<(), AnyError> {
         "create in the same store",
         create(&mut s, 3, 9, 65536, b""),
     )?;
-    let m = Mount::new(s, ZerosDisk::new(0));
+    let master = [5u8; 700];
+    let m = Mount::new(s, RawDisk::new(&master));
     match m.numbers() {
         Ok(n) => {
             let Numbers {
@@ -135,6 +137,21 @@ fn use_image(rt: &LibcRuntime) -> Result<(), AnyError> {
         }
         Err(f) => report(rt, "mount", Err(f))?,
     }
+    let mut buffer = [0xeeu8; 512];
+    report(
+        rt,
+        "read sector 1, which the master shows",
+        m.read(1, &mut buffer),
+    )?;
+    let first = buffer[0];
+    let last = buffer[511];
+    println!(rt, "  it begins with {first} and ends with {last}")?;
+    report(rt, "read sector 128", m.read(128, &mut buffer))?;
+    report(
+        rt,
+        "read it through the mount as a disk",
+        m.read_sector(128, &mut buffer),
+    )?;
     let mut other = [0u8; 1024];
     let m = Mount::new(FlatStore::new(&mut other, 1024), ZerosDisk::new(0));
     match m.numbers() {
