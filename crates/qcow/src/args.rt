@@ -4,15 +4,15 @@ use std::alloc::Global;
 use std::error::AnyError;
 
 #[derive(Drop)]
-pub struct Arguments {
+pub(crate) struct Arguments {
     // options as they came, each with its value
     options: Vec<(String, String)>,
-    pub words: Vec<String>,
+    pub(crate) words: Vec<String>,
 }
 
 impl Arguments {
     // The arguments behind the task's name; `valued` are the options that take a value.
-    pub fn new(heap: Global, given: Vec<String>, valued: &[&str]) -> Result<Arguments, AnyError> {
+    pub(crate) fn new(heap: Global, given: Vec<String>, valued: &[&str]) -> Result<Arguments, AnyError> {
         let mut options = Vec::new(heap);
         let mut words = Vec::new(heap);
         let mut name: Option<String> = None;
@@ -41,7 +41,7 @@ impl Arguments {
     }
 
     // The value of an option, the last one given.
-    pub fn option(&self, name: &str) -> Option<&str> {
+    pub(crate) fn option(&self, name: &str) -> Option<&str> {
         let mut found = None;
         for pair in self.options.iter() {
             if pair.0.as_str() == name {
@@ -62,7 +62,7 @@ fn has(names: &[&str], name: &str) -> bool {
 }
 
 // An error that names what it is about.
-pub fn message(heap: Global, what: &str, which: &str) -> Result<AnyError, AllocError> {
+pub(crate) fn message(heap: Global, what: &str, which: &str) -> Result<AnyError, AllocError> {
     let text = format!(heap, "{what} {which}")?;
     Ok(text.into())
 }

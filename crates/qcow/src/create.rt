@@ -9,7 +9,7 @@ use std::error::AnyError;
 use store::FlatStore;
 use store::FlatStoreStore;
 
-pub const USAGE: &str =
+pub(crate) const USAGE: &str =
     "qcow create [--compat 0.10|1.1] [--cluster-bits N] [--backing NAME] FILE SIZE";
 
 // What is asked for, as the words have it.
@@ -97,7 +97,7 @@ fn make(rt: &LibcRuntime, path: &str, wish: &Wish) -> Result<Vec<u8>, AnyError> 
     }
 }
 
-pub fn run(rt: &LibcRuntime, given: Vec<String>) -> Result<(), AnyError> {
+pub(crate) fn run(rt: &LibcRuntime, given: Vec<String>) -> Result<(), AnyError> {
     let heap = rt.alloc();
     let args = Arguments::new(heap, given, &["--compat", "--cluster-bits", "--backing"])?;
     let words = args.words.as_slice();

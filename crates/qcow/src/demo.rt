@@ -160,7 +160,7 @@ fn use_image(rt: &LibcRuntime) -> Result<(), AnyError> {
     }
 }
 
-pub fn run(rt: &LibcRuntime) -> Result<(), AnyError> {
+pub(crate) fn run(rt: &LibcRuntime) -> Result<(), AnyError> {
     let mut whole = [9u8; 16];
     let mut flat = FlatStore::new(&mut whole, 8);
     rt.println("flat store")?;

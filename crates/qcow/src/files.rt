@@ -9,14 +9,14 @@ use std::io::Write;
 use std::process;
 
 // An error of the system's, with the file's name before it.
-pub fn failed(heap: Global, path: &str, e: std::io::Error) -> AnyError {
+pub(crate) fn failed(heap: Global, path: &str, e: std::io::Error) -> AnyError {
     match format!(heap, "{path}: {e}") {
         Ok(text) => text.into(),
         Err(e) => e.into(),
     }
 }
 
-pub fn exists(rt: &LibcRuntime, path: &str) -> Result<bool, AnyError> {
+pub(crate) fn exists(rt: &LibcRuntime, path: &str) -> Result<bool, AnyError> {
     match fs::exists(rt, path) {
         Ok(b) => Ok(b),
         Err(e) => Err(failed(rt.alloc(), path, e)),
@@ -24,7 +24,7 @@ pub fn exists(rt: &LibcRuntime, path: &str) -> Result<bool, AnyError> {
 }
 
 // Writes under another name in the same folder, flushes to the disk and renames, so that a crash leaves no file or a whole one.
-pub fn write_whole(rt: &LibcRuntime, path: &str, bytes: &[u8]) -> Result<(), AnyError> {
+pub(crate) fn write_whole(rt: &LibcRuntime, path: &str, bytes: &[u8]) -> Result<(), AnyError> {
     let heap = rt.alloc();
     let id = process::id(rt.process());
     let part = format!(heap, "{path}.part-{id}")?;
@@ -51,7 +51,7 @@ fn write_part(rt: &LibcRuntime, part: &str, bytes: &[u8]) -> std::io::Result<()>
 }
 
 // The first bytes of a file, as many as there are up to the buffer's length, and the file's length.
-pub fn read_front(
+pub(crate) fn read_front(
     rt: &LibcRuntime,
     path: &str,
     front: &mut [u8],

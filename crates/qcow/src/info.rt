@@ -11,12 +11,12 @@ use std::alloc::AllocError;
 use std::alloc::Global;
 use std::error::AnyError;
 
-pub const USAGE: &str = "qcow info FILE";
+pub(crate) const USAGE: &str = "qcow info FILE";
 
 const NO_OPTIONS: &[&str] = &[];
 
 // A name as text: printable letters as they are, others as \xNN.
-pub fn shown(heap: Global, name: &[u8]) -> Result<String, AllocError> {
+pub(crate) fn shown(heap: Global, name: &[u8]) -> Result<String, AllocError> {
     let mut text = String::new(heap);
     for b in name {
         if *b >= 0x20 && *b < 0x7f && *b != b'\\' {
@@ -74,7 +74,7 @@ fn refuse(rt: &LibcRuntime, path: &str, f: Fault) -> Result<(), AnyError> {
     Err(message(rt.alloc(), path, "has no good header")?)
 }
 
-pub fn run(rt: &LibcRuntime, given: Vec<String>) -> Result<(), AnyError> {
+pub(crate) fn run(rt: &LibcRuntime, given: Vec<String>) -> Result<(), AnyError> {
     let heap = rt.alloc();
     let args = Arguments::new(heap, given, NO_OPTIONS)?;
     let words = args.words.as_slice();

@@ -4,7 +4,7 @@ use std::error::AnyError;
 use std::io::BufRead;
 use std::io::BufReader;
 
-pub fn run(rt: &LibcRuntime) -> Result<(), AnyError> {
+pub(crate) fn run(rt: &LibcRuntime) -> Result<(), AnyError> {
     let heap = rt.alloc();
     let mut session = Session::new(heap);
     for line in BufReader::new(rt.stdin()).lines(heap) {
