@@ -1,2 +1,4 @@
 pub mod Clusters
 pub mod Headers
+mod Zeros
+mod Recorded

@@ -26,7 +26,7 @@ fn check(test: bool, reason: Reason, place: u64) -> Result<(), Fault>
 }
 
 // Whether n bytes from `at` on lie within `length`, as a true sum.
-fn within(at: u64, n: u64, length: u64) -> bool
+pub(crate) fn within(at: u64, n: u64, length: u64) -> bool
     ensures value { λ r. ⌜ r ≡ leb (at + n) length ⌝ }
 {
     at <= length && n <= length - at
@@ -67,7 +67,7 @@ impl Numbers {
         self.size != 0 && self.size % 512 == 0 && self.needed_entries() <= self.table_entries()
     }
 
-    fn table_good(self, length: u64, offset: u64, clusters: u32) -> bool
+    pub(crate) fn table_good(self, length: u64, offset: u64, clusters: u32) -> bool
         ensures value { λ r. ⌜ r ≡ table-good self length offset clusters ⌝ }
     {
         let c = self.cluster_size();
@@ -146,7 +146,7 @@ fn four(rest: &[u8], at: usize) -> u32
     u32_at(rest, at).unwrap_or(0)
 }
 
-fn eight(rest: &[u8], at: usize) -> u64
+pub(crate) fn eight(rest: &[u8], at: usize) -> u64
     requires { ⌜ at + 8 ≤ length (now rest) ⌝ }
     ensures value { λ r. ⌜ r ≡ number (now (rest .entry)) at 8 ⌝ }
 {

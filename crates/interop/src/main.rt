@@ -3,8 +3,12 @@ use fault::FaultDisplay;
 use format::Numbers;
 use format::filled_length;
 use format::judge;
+use format::judge_record;
 use std::error::AnyError;
 use std::fs;
+use store::FlatStore;
+use store::FlatStoreStore;
+use store::Store;
 
 fn backing<'a>(n: &Numbers, image: &'a [u8]) -> &'a [u8] {
     let from = n.name.min(image.len() as u64) as usize;
@@ -16,6 +20,26 @@ fn backing<'a>(n: &Numbers, image: &'a [u8]) -> &'a [u8] {
     } else {
         &image[from..to]
     }
+}
+
+// The id of each snapshot, from record to record.
+fn list(rt: &LibcRuntime, n: Numbers, image: &mut [u8]) -> Result<(), AnyError> {
+    let used = image.len();
+    let s = FlatStore::new(image, used);
+    let mut at: u64 = 0;
+    for _ in 0..n.snapshots.min(64) {
+        match judge_record(&s, n, at) {
+            Ok(record) => {
+                let mut id = vec![in rt.alloc(); 0u8; record.letters as usize]?;
+                let _ = s.read(record.place.saturating_add(record.id), id.as_mut_slice());
+                let text = String::from_utf8_lossy(rt.alloc(), id.as_slice())?;
+                println!(rt, "  snapshot {text}")?;
+                at = at.saturating_add(record.size);
+            }
+            Err(f) => println!(rt, "  refused {f}")?,
+        }
+    }
+    Ok(())
 }
 
 fn examine(rt: &LibcRuntime, name: &str) -> Result<(), AnyError> {
@@ -37,10 +61,13 @@ fn examine(rt: &LibcRuntime, name: &str) -> Result<(), AnyError> {
                 rt,
                 "{name}: version {version}, {size} bytes, clusters of {cluster}, backing {under}, {snapshots} snapshots"
             )?;
+            list(rt, n, file.as_mut_slice())
         }
-        Err(f) => println!(rt, "{name}: refused {f}")?,
+        Err(f) => {
+            println!(rt, "{name}: refused {f}")?;
+            Ok(())
+        }
     }
-    Ok(())
 }
 
 fn run(rt: &LibcRuntime) -> Result<(), AnyError> {

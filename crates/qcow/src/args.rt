@@ -12,7 +12,11 @@ pub(crate) struct Arguments {
 
 impl Arguments {
     // The arguments behind the task's name; `valued` are the options that take a value.
-    pub(crate) fn new(heap: Global, given: Vec<String>, valued: &[&str]) -> Result<Arguments, AnyError> {
+    pub(crate) fn new(
+        heap: Global,
+        given: Vec<String>,
+        valued: &[&str],
+    ) -> Result<Arguments, AnyError> {
         let mut options = Vec::new(heap);
         let mut words = Vec::new(heap);
         let mut name: Option<String> = None;
