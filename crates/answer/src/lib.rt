@@ -1,4 +1,6 @@
 // What calls answer, and the record line of each.
+#![tactic(auto)]
+
 mod answers;
 mod digests;
 mod records;

@@ -5,9 +5,9 @@ use Rattle.std.proofs.lemmas.List.{places, same_lists, drop-drop, drop-replicate
 use Rattle.byte_lists.specs.Runs.{put, grow, zeros}
 
 -- a copy into a lent part of a list is a replacement
-pub put_mid : (bs : List ℕ) (at n : ℕ) (new : List ℕ) → n ≡ length new → put_mid at n bs new ≡ put bs at new
+pub put_mid-is_put : (bs : List ℕ) (at n : ℕ) (new : List ℕ) → n ≡ length new → put_mid at n bs new ≡ put bs at new
 unfolding put
-put_mid bs at n new e = ap (λ l. take at bs ++ (new ++ l)) (drop-drop n at bs ∙ ap (λ k. drop (at + k) bs) e)
+put_mid-is_put bs at n new e = ap (λ l. take at bs ++ (new ++ l)) (drop-drop n at bs ∙ ap (λ k. drop (at + k) bs) e)
 
 -- a list written in two parts
 pub both_parts : (out x y : List ℕ) (k n : ℕ) → length out ≡ n → length x ≡ k → length y ≡ n - k → k ≤ n → put_mid k (n - k) (put_mid 0 (k - 0) out x) y ≡ x ++ y

@@ -8,7 +8,7 @@ use Rattle.std.proofs.lemmas.Bool.{cond-true, le-leb}
 use Rattle.byte_lists.specs.Runs.{run, put, zeros, grow, Octets}
 use Rattle.byte_lists.specs.Numbers.{be, be_bytes, number, spell, found}
 use Rattle.byte_lists.proofs.Runs.{length_run, get_or-run, run-put_same, run-put_apart, run-put_inside, run-grow_old, run-grow_new, run-run, length-put}
-use Rattle.byte_lists.proofs.Lent.{put_mid}
+use Rattle.byte_lists.proofs.Lent.{put_mid-is_put}
 use Rattle.byte_lists.proofs.Octets.{octets_run}
 
 pub length-be_bytes : (w x : ℕ) → length (be_bytes w x) ≡ w
@@ -180,7 +180,7 @@ found_is bs at w x h e = ap (λ n. Some n) e ∙ sym (cond-true (leb (at + w) (l
 -- what a copy of a number's bytes leaves
 pub spell_is : (bs : List ℕ) (at w x n : ℕ) (new : List ℕ) → n ≡ w → new ≡ be_bytes w x → put_mid at n bs new ≡ spell bs at w x
 unfolding spell
-spell_is bs at w x n new e f = put_mid bs at n new (e ∙ sym (ap length f ∙ length-be_bytes w x)) ∙ ap (put bs at) f
+spell_is bs at w x n new e f = put_mid-is_put bs at n new (e ∙ sym (ap length f ∙ length-be_bytes w x)) ∙ ap (put bs at) f
 
 -- the low bytes of a number are its last ones
 pub be_bytes_last : (k w x : ℕ) → drop k (be_bytes (k + w) x) ≡ be_bytes w x

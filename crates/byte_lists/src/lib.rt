@@ -1,4 +1,6 @@
 // Byte lists: big-endian numbers read from and written to lists that the caller lends.
+#![tactic(auto)]
+
 ghost use Rattle.std.specs.Prelude.{◌≡◌, ◌+◌, length, if◌then◌else◌, nat_le};
 ghost use Rattle.byte_lists.specs.Runs.{Octets};
 ghost use Rattle.byte_lists.specs.Numbers.{found, spell};

@@ -1,4 +1,6 @@
 // Dates from seconds since the beginning of 1970, in UTC.
+#![tactic(auto)]
+
 ghost use Rattle.std.specs.Prelude.{◌≡◌, ℕ, ◌+◌, ◌-◌, ◌*◌, ◌/◌, ◌%◌, ◌<◌, ◌≤◌, Bool};
 ghost use Rattle.calendar.specs.Days.{leap as leap_of, year_days as year_days, month_days as month_days, years, months};
 

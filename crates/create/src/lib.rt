@@ -1,4 +1,6 @@
 // Creating an image: four clusters, for every version, cluster size, guest size and backing name that fits.
+#![tactic(auto)]
+
 ghost use Rattle.std.specs.Prelude.{◌≡◌, ◌+◌, ◌*◌, ◌^◌, ◌<◌, ◌≤◌, cond, length, Ok, OnOk};
 ghost use Rattle.fault.specs.Outcomes.{Gives};
 ghost use Rattle.format.specs.Clusters.{cluster};

@@ -1,4 +1,6 @@
 // Disks: what an image is laid over. A disk means a number of sectors and an answer for each.
+#![tactic(auto)]
+
 ghost use Rattle.std.specs.Prelude.{◌≡◌};
 ghost use Rattle.fault.specs.Outcomes.{Gives};
 ghost use Rattle.disk.specs.Readings.{Reading, Sound};

@@ -1,5 +1,7 @@
 // Every row of the header's judgement and of create at its edge: the last value accepted, the first refused.
 // Each table has a line for a case: what it is, a semicolon, and its numbers.
+#![tactic(auto)]
+
 use anyhow::anyhow;
 use byte_lists::{put_u32, put_u64};
 use create::create;

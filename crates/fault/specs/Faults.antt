@@ -5,7 +5,8 @@
 --   fault    a fault where it first arises
 --   deeper   a fault that has passed one backing disk more
 --   shown    a fault as text: number, layer, place and depth
-use Rattle.std.specs.Prelude.{ℕ, ◌+◌, min, List, [], ◌∷◌, ◌++◌, codes, decimal}
+--   same_reason, same_fault   whether two are one: by numbers, and by all parts
+use Rattle.std.specs.Prelude.{ℕ, ◌+◌, min, Bool, ◌&&◌, ◌==◌, List, [], ◌∷◌, ◌++◌, codes, decimal}
 use Rattle.std.proofs.Math.Utf8.{encode}
 use Rattle.fault.specs.declared.Layer.{Layer}
 use Rattle.fault.specs.declared.Layer.TheVariants.{Header, Tables, Disk, Store, Call}
@@ -82,3 +83,9 @@ deeper f = record { reason = f.reason; layer = f.layer; place = f.place; depth =
 
 abbrev pub shown : Fault → List ℕ
 shown f = decimal (number f.reason) ++ (codes " " ++ (encode (letter f.layer) ++ (codes " " ++ (decimal f.place ++ (codes " " ++ decimal f.depth)))))
+
+abbrev pub same_reason : Reason → Reason → Bool
+same_reason x y = number x == number y
+
+abbrev pub same_fault : Fault → Fault → Bool
+same_fault x y = same_reason x.reason y.reason && (letter x.layer == letter y.layer) && (x.place == y.place) && (x.depth == y.depth)

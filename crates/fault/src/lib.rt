@@ -1,9 +1,10 @@
 // Faults: why a call refused, in which layer, at which place, and how many backing disks down.
+#![tactic(auto)]
+
 ghost use Rattle.std.specs.Prelude.{◌≡◌, [], ◌∷◌, Some, Decides};
 ghost use Rattle.std.proofs.Math.Utf8.{encode};
-ghost use Rattle.fault.specs.Faults.{number as number_of, letter as letter_of, words as words_of, fault, deeper as deeper_of, shown as shown_of};
-ghost use Rattle.std.specs.Cmp.Rules.{comparing};
-ghost use Rattle.std.proofs.Common.{rules};
+ghost use Rattle.fault.specs.Faults.{number as number_of, letter as letter_of, words as words_of, fault, deeper as deeper_of, shown as shown_of, same_reason, same_fault};
+ghost use Rattle.fault.specs.Same.{reason_laws, fault_laws};
 ghost use Rattle.std.specs.Cmp as Keys;
 
 use std::fmt;
@@ -140,25 +141,31 @@ impl Reason {
 
 // Reasons are compared by their numbers, which tell them apart.
 impl PartialEq for Reason {
-    ghost equals = { λ x y r. Decides r (x ≡ y) };
+    ghost eq = { same_reason };
 
-    ghost laws = { Keys.partial_equiv_from_equiv (Prim.search (comparing, rules)) };
+    ghost laws = { Keys.partial_equiv_from_equiv reason_laws };
 
-    fn eq(&self, other: &Reason) -> bool {
+    fn eq(&self, other: &Reason) -> bool
+        ensures value { result ≡ same_reason self.now other.now }
+        ensures decides { Decides result (self.now ≡ other.now) }
+    {
         self.number() == other.number()
     }
 }
 
 impl Eq for Reason {
-    ghost laws = { Prim.search (comparing, rules) };
+    ghost laws = { reason_laws };
 }
 
 impl PartialEq for Fault {
-    ghost equals = { λ x y r. Decides r (x ≡ y) };
+    ghost eq = { same_fault };
 
-    ghost laws = { Keys.partial_equiv_from_equiv (Prim.search (comparing, rules)) };
+    ghost laws = { Keys.partial_equiv_from_equiv fault_laws };
 
-    fn eq(&self, other: &Fault) -> bool {
+    fn eq(&self, other: &Fault) -> bool
+        ensures value { result ≡ same_fault self.now other.now }
+        ensures decides { Decides result (self.now ≡ other.now) }
+    {
         self.reason == other.reason
             && self.layer == other.layer
             && self.place == other.place
@@ -167,7 +174,7 @@ impl PartialEq for Fault {
 }
 
 impl Eq for Fault {
-    ghost laws = { Prim.search (comparing, rules) };
+    ghost laws = { fault_laws };
 }
 
 impl Fault {

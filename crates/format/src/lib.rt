@@ -1,4 +1,6 @@
 // What an image's bytes mean: the header's numbers, the tables' entries and the snapshot records, judged.
+#![tactic(auto)]
+
 mod entries;
 mod files;
 mod header;

@@ -1,4 +1,6 @@
 // What a guest sees: from a guest sector through the tables to its bytes, over any store and any backing disk.
+#![tactic(auto)]
+
 mod reading;
 
 pub use reading::{

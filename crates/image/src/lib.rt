@@ -1,4 +1,6 @@
 // Images: a store with a header, mounted over a backing disk.
+#![tactic(auto)]
+
 mod as_disk;
 mod mount;
 mod peeking;

@@ -1,4 +1,6 @@
 // Images that qemu-img made, as we find them; `stdout` has what qemu-img says of the same files.
+#![tactic(auto)]
+
 use format::{Numbers, filled_length, judge, judge_record};
 use std::fs;
 use store::{FlatStore, Store};

@@ -1,4 +1,6 @@
 // Image files opened with the files that they lie on: read whole, layer by layer, down to a raw file or none.
+#![tactic(auto)]
+
 mod links;
 mod names;
 mod opened;

@@ -1,4 +1,6 @@
 // Stores and disks of any kind behind one type, so that what is written over them is written once.
+#![tactic(auto)]
+
 mod any_store;
 mod base_disk;
 mod lists;

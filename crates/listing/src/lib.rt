@@ -1,4 +1,6 @@
 // Text of the program's, as values: spoiled sectors from a list, names and bytes as lines, the path that a name means.
+#![tactic(auto)]
+
 mod lines;
 mod paths;
 mod spoiled;

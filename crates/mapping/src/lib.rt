@@ -1,4 +1,6 @@
 // The map of a guest disk, live or a snapshot's, and copying the disk out by it.
+#![tactic(auto)]
+
 mod copies;
 mod maps;
 

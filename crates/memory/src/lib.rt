@@ -1,4 +1,6 @@
 // A store that owns its bytes, for a layer of a chain of images.
+#![tactic(auto)]
+
 ghost use Rattle.std.specs.Prelude.{◌≡◌, ◌+◌, length, nat_le};
 ghost use Rattle.fault.specs.Outcomes.{Gives};
 ghost use Rattle.store.specs.Stores.{load, stored};

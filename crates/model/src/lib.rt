@@ -1,4 +1,6 @@
 // The laws of images with internal snapshots, as contracts.
+#![tactic(auto)]
+
 ghost use Rattle.model.specs.Invariant.{Clean};
 ghost use Rattle.model.specs.Law.{Law, Lasting, Witness};
 

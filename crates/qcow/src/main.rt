@@ -1,4 +1,6 @@
 // The program: its first argument names a task; without any it shows what it can do.
+#![tactic(auto)]
+
 mod args;
 mod checks;
 mod create;

@@ -1,4 +1,6 @@
 // Images that qemu-img made: `stdout` has what qemu-img says of them, and each disk is held to what it read from it.
+#![tactic(auto)]
+
 use anyhow::anyhow;
 use image_check::check;
 use disk::Disk;

@@ -1,4 +1,6 @@
 // Runs of a map's words: guest clusters in a row of one kind, data clusters in a row on the host too.
+#![tactic(auto)]
+
 ghost use Rattle.std.specs.Prelude.{◌≡◌, ℕ, ◌+◌, ◌-◌, ◌<◌, ◌≤◌, true, false, length, IfSome, MatchOption, slice_index};
 ghost use Rattle.runs.specs.Words.{goes_on, kind_of as kind_of};
 

@@ -1,4 +1,6 @@
 // Lists of calls as text: each line is a call, and each call has a record line. docs/CALLS.md has the words.
+#![tactic(auto)]
+
 mod disks;
 mod images;
 mod lines;

@@ -1,4 +1,6 @@
 // Snapshots: their records in the snapshot table, judged one by one and all together.
+#![tactic(auto)]
+
 mod all;
 mod records;
 

@@ -1,4 +1,6 @@
 // Stores: where an image's bytes lie. A store means a list of bytes and a limit that its length never passes.
+#![tactic(auto)]
+
 ghost use Rattle.std.specs.Prelude.{◌≡◌, ℕ, ◌≤◌, List, length};
 ghost use Rattle.byte_lists.specs.Runs.{Octets};
 ghost use Rattle.fault.specs.Outcomes.{Gives};

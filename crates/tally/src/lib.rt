@@ -1,4 +1,6 @@
 // The tally of an image's references: a word for each host cluster, filled while the image is walked.
+#![tactic(auto)]
+
 mod filling;
 mod words;
 

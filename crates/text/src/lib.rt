@@ -1,4 +1,6 @@
 // Text of calls: the words of a line, the values that words spell, and the call that they make.
+#![tactic(auto)]
+
 mod calls;
 mod values;
 mod verbs;

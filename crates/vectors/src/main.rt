@@ -1,4 +1,6 @@
 // Runs the stored lists of calls and compares every record line with the one that it must give.
+#![tactic(auto)]
+
 use anyhow::anyhow;
 use script::Session;
 use std::fs;

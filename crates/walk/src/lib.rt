@@ -1,4 +1,6 @@
 // The walk of an image: every entry and record that check meets, judged in order, and every reference that they make.
+#![tactic(auto)]
+
 mod judging;
 mod kinds;
 mod places;

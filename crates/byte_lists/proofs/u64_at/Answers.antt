@@ -7,4 +7,4 @@ pub returns : goal.returns
 returns c =
     let bs = c.args.list.now in
     let fits : c.args.at + 8 ≤ length bs = leb-true (c.args.at + 8) (length bs) (sym c.if-not-within.ensures.value) in
-    record { value = found_is bs c.args.at 8 c.from-be-bytes.result fits (c.from-be-bytes.ensures ∙ sym (number_eight bs c.args.at fits)) }
+    record { value = found_is bs c.args.at 8 c.from_be_bytes.result fits (c.from_be_bytes.ensures ∙ sym (number_eight bs c.args.at fits)) }

@@ -14,20 +14,20 @@ returns g c =
     let limit = g.S.Store.limit c.args.s.now in
     let n = c.args.n in
     let name = c.args.name.now in
-    let C = c.cluster-size-c.result in
-    let size : C ≡ cluster n = c.cluster-size-c.ensures.value in
+    let C = c.cluster_size-c.result in
+    let size : C ≡ cluster n = c.cluster_size-c.ensures.value in
     let bs₁ = g.S.Store.bytes c.grow.new.self in
     let bs₂ = g.S.Store.bytes c.replace.new.self in
     let bs₃ = g.S.Store.bytes c.lay.new.s in
-    let bs₄ = g.S.Store.bytes c.lay-late.new.s in
+    let bs₄ = g.S.Store.bytes c.lay_late.new.s in
     let e₁ : bs₁ ≡ after bs (grown bs limit (4 * cluster n)) = left_after c.grow.result _ bs bs₁ c.grow.ensures.outcome ∙ ap (λ k. after bs (grown bs limit (4 * k))) size in
     let e₂ : bs₂ ≡ after bs₁ (stored bs₁ n.name name) = left_after c.replace.result _ bs₁ bs₂ c.replace.ensures.outcome in
-    let e₃ : bs₃ ≡ laid (shared_fields n) bs₂ = c.lay.ensures.bytes ∙ ap (λ l. laid l bs₂) c.shared-list.ensures.value in
-    let e₄ : bs₄ ≡ laid (header_fields n) bs₃ = c.lay-late.ensures.bytes in
-    let e₅ : g.S.Store.bytes c.lay-2.new.s ≡ laid (table_fields (cluster n)) bs₄ = c.lay-2.ensures.bytes ∙ ap (λ l. laid l bs₄) (c.table-list.ensures.value ∙ ap table_fields size) in
+    let e₃ : bs₃ ≡ laid (shared_fields n) bs₂ = c.lay.ensures.bytes ∙ ap (λ l. laid l bs₂) c.shared_list.ensures.value in
+    let e₄ : bs₄ ≡ laid (header_fields n) bs₃ = c.lay_late.ensures.bytes in
+    let e₅ : g.S.Store.bytes c.lay-2.new.s ≡ laid (table_fields (cluster n)) bs₄ = c.lay-2.ensures.bytes ∙ ap (λ l. laid l bs₄) (c.table_list.ensures.value ∙ ap table_fields size) in
     record {
       bytes = e₅
           ∙ ap (laid (table_fields (cluster n))) (e₄ ∙ ap (laid (header_fields n)) (e₃ ∙ ap (laid (shared_fields n)) (e₂ ∙ ap (λ l. after l (stored l n.name name)) e₁)))
           ∙ filled n name c.requires.2 bs limit c.requires.0 c.requires.1;
-      limit = c.lay-2.ensures.limit ∙ c.lay-late.ensures.limit ∙ c.lay.ensures.limit ∙ c.replace.ensures.limit ∙ c.grow.ensures.limit;
+      limit = c.lay-2.ensures.limit ∙ c.lay_late.ensures.limit ∙ c.lay.ensures.limit ∙ c.replace.ensures.limit ∙ c.grow.ensures.limit;
     }

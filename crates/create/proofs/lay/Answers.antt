@@ -9,8 +9,8 @@ loop-f-preserved g c =
     let fs = c.args.fields.now in
     let i = c.loop-f.f-index in
     let bs = g.S.Store.bytes c.loop-f.s in (
-      ap (laid (drop (i + 1) fs)) c.lay-field.ensures.bytes ∙ sym (at_drop_more (λ l. laid l bs) fs i (field 0 0 0) c.loop-f-test.true) ∙ c.loop-f.invariant.0,
-      c.lay-field.ensures.limit ∙ c.loop-f.invariant.1,
+      ap (laid (drop (i + 1) fs)) c.lay_field.ensures.bytes ∙ sym (at_drop_more (λ l. laid l bs) fs i (field 0 0 0) c.loop-f-test.true) ∙ c.loop-f.invariant.0,
+      c.lay_field.ensures.limit ∙ c.loop-f.invariant.1,
     )
 
 pub returns : goal.returns

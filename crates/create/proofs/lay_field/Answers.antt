@@ -12,7 +12,7 @@ returns g c =
     let f = c.args.f in
     let low = 8 - c.min-low.result in
     let sum : low + min f.wide 8 ≡ 8 = omega (arith, c.min-low.ensures) in
-    let new = last_bytes c.to-be-bytes-bytes.result f.value low (min f.wide 8) (c.to-be-bytes-bytes.ensures ∙ sym (eight_bytes f.value)) sum in
+    let new = last_bytes c.to_be_bytes-bytes.result f.value low (min f.wide 8) (c.to_be_bytes-bytes.ensures ∙ sym (eight_bytes f.value)) sum in
     record {
       bytes = left_after c.replace.result _ bs (g.S.Store.bytes c.replace.new.self) c.replace.ensures.outcome ∙ ap (λ l. after bs (stored bs f.at l)) new;
       limit = c.replace.ensures.limit;

@@ -13,4 +13,4 @@ returns c =
     let first = c.args.first in
     let n = length c.args.out.now in
     let fits = passed (first + n) (length bs) (length bs) c.if-not-within.ensures.value refl in
-    record { outcome = loads bs first n c.copy-from-slice.new.self fits (sym (copied bs first n (first + n - first) (omega arith)) ∙ sym c.copy-from-slice.ensures.after) }
+    record { outcome = loads bs first n c.copy_from_slice.new.self fits (sym (copied bs first n (first + n - first) (omega arith)) ∙ sym c.copy_from_slice.ensures.after) }

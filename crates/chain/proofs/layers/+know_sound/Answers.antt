@@ -7,4 +7,4 @@ pub returns-then-layers-eq0 : goal.returns-then-layers-eq0
 returns-then-layers-eq0 g t c = record { sound = subst Sound (sym (chain_none (λ l. l.header) (λ l. g.S.Store.bytes l.store) (g.B.Disk.reading c.args.base.now) c.args.layers.now (omega arith))) c.sectors.ensures.sound }
 
 pub returns : goal.returns
-returns g t c = record { sound = top_sound (λ l. l.header) (λ l. g.S.Store.bytes l.store) (g.B.Disk.reading c.args.base.now) c.args.layers.now _ c.index-layers-0.result (omega arith) c.index-layers-0.is refl c.length.ensures.octets c.know-sound.ensures.sound }
+returns g t c = record { sound = top_sound (λ l. l.header) (λ l. g.S.Store.bytes l.store) (g.B.Disk.reading c.args.base.now) c.args.layers.now _ c.index-layers-0.result (omega arith) c.index-layers-0.is refl c.length.ensures.octets c.know_sound.ensures.sound }

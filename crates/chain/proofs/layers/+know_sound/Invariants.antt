@@ -1,5 +1,5 @@
 use Rattle.std.proofs.Common.{length}
 use Rattle.chain.proofs.layers.+know_sound.Given as goal
 
-abbrev pub decreases-know-sound : goal.decreases-know-sound
-decreases-know-sound g l = length l.layers.now
+abbrev pub decreases-know_sound : goal.decreases-know_sound
+decreases-know_sound g l = length l.layers.now

@@ -11,7 +11,7 @@ returns g c =
     let place = c.args.place in
     let bs = g.S.Store.bytes c.args.s.now in
     record {
-      value = c.record-good-or.ensures.value
-          ∙ ap (λ t. record_good t place) c.rest-good.ensures.value
+      value = c.record_good_or.ensures.value
+          ∙ ap (λ t. record_good t place) c.rest_good.ensures.value
           ∙ sym (ap (λ k. and_then (load bs place k) (λ r. record_good (rest_good n h r) place)) (sym c.requires.0) ∙ ap (λ x. and_then x (λ r. record_good (rest_good n h r) place)) c.in-ok-read.ensures.outcome);
     }

@@ -6,10 +6,10 @@ returns g c =
     let m = c.args.m.now in
     let bs = g.S.Store.bytes m.store in
     record {
-      answer = c.check-and-mark.ensures.answer;
-      clean = c.check-and-mark.ensures.clean;
-      store = c.check-and-mark.ensures.store;
-      backing = c.check-and-mark.ensures.backing;
-      numbers = c.check-and-mark.ensures.numbers;
-      lawful = lawful_case m.header bs c.args.words.now c.check-and-mark.new.words c.check-and-mark.result c.check-and-mark.ensures.answer c.check-and-mark.ensures.octets;
+      answer = c.check_and_mark.ensures.answer;
+      clean = c.check_and_mark.ensures.clean;
+      store = c.check_and_mark.ensures.store;
+      backing = c.check_and_mark.ensures.backing;
+      numbers = c.check_and_mark.ensures.numbers;
+      lawful = lawful_case m.header bs c.args.words.now c.check_and_mark.new.words c.check_and_mark.result c.check_and_mark.ensures.answer c.check_and_mark.ensures.octets;
     }

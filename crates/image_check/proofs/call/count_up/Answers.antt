@@ -28,12 +28,12 @@ returns g c =
     let words : c.fill-2.new.words ≡ filled n bs rs zero' = c.fill-2.ensures.after ∙ ap (filled n bs rs) cleared in
     let turned : (f : ℕ → ℕ → Bool) → sum_by f c.fill-2.new.words (length c.fill-2.new.words) ≡ sum_by f (filled n bs rs zero') (length zero') =
     λ f. ap (λ l. sum_by f l (length l)) words ∙ ap (sum_by f (filled n bs rs zero')) (length-filled n bs rs zero') in
-    let a : c.totals-found.result.leaked + c.past-end.result ≡ leaked n bs (references n bs rs) =
-    ap (λ x. x + c.past-end.result) (c.totals-found.ensures.leaked ∙ turned (leaking n bs)) ∙ ap (λ x. sum_by (leaking n bs) (filled n bs rs zero') (length zero') + x) c.past-end.ensures.value ∙ leaked_is n bs rs zero' same blank in
+    let a : c.totals-found.result.leaked + c.past_end.result ≡ leaked n bs (references n bs rs) =
+    ap (λ x. x + c.past_end.result) (c.totals-found.ensures.leaked ∙ turned (leaking n bs)) ∙ ap (λ x. sum_by (leaking n bs) (filled n bs rs zero') (length zero') + x) c.past_end.ensures.value ∙ leaked_is n bs rs zero' same blank in
     let b = c.totals-found.ensures.short ∙ turned (lacking n bs) ∙ short_is n bs rs zero' same blank in
     let d = c.totals-found.ensures.mixed ∙ turned mixing ∙ mixed_is n bs rs zero' same blank in
     let e = c.totals-found.ensures.repeated ∙ turned repeating ∙ repeated_is n bs rs zero' same blank in
     record {
       answer = five _ _ _ _ _ _ _ _ _ _ a b d e c.flags.ensures.value;
-      words = c.unmark-all.ensures.after ∙ ap (map unmarked) words ∙ filled-tally n bs rs zero' blank ∙ ap (tally (references n bs rs)) long;
+      words = c.unmark_all.ensures.after ∙ ap (map unmarked) words ∙ filled-tally n bs rs zero' blank ∙ ap (tally (references n bs rs)) long;
     }

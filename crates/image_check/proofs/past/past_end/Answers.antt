@@ -12,7 +12,7 @@ loop-i-preserved g c =
     let f : ℕ → ℕ = λ i. past_in n bs i (block_at n bs i) in
     let lt : c.loop-i.i < blocks n = omega (arith, c.blocks-i-end.ensures.value) in
     let more = sum_more f c.loop-i.i (blocks n) lt in
-    (omega (arith, more, c.past-named-found.ensures.value, c.loop-i.invariant.0), omega (arith, c.past-named-found.ensures.most, c.loop-i.invariant.1))
+    (omega (arith, more, c.past_named-found.ensures.value, c.loop-i.invariant.0), omega (arith, c.past_named-found.ensures.most, c.loop-i.invariant.1))
 
 pub returns : goal.returns
 returns g c =

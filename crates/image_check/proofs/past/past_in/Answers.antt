@@ -8,14 +8,14 @@ pub loop-j-preserved : goal.loop-j-preserved
 loop-j-preserved g c =
     let n = c.args.n in
     let f : ℕ → ℕ = λ j. one (past n (g.S.Store.bytes c.args.s.now) c.args.i c.args.block j) in
-    let lt : c.loop-j.j < per_block n = omega (arith, c.block-counts-j-end.ensures.value) in
+    let lt : c.loop-j.j < per_block n = omega (arith, c.block_counts-j-end.ensures.value) in
     let more = sum_more f c.loop-j.j (per_block n) lt in
-    let found = c.one-if-found.ensures.value ∙ ap one c.past.ensures.value in
-    (omega (arith, more, found, c.loop-j.invariant.0), omega (arith, c.one-if-found.ensures.most, c.loop-j.invariant.1))
+    let found = c.one_if-found.ensures.value ∙ ap one c.past.ensures.value in
+    (omega (arith, more, found, c.loop-j.invariant.0), omega (arith, c.one_if-found.ensures.most, c.loop-j.invariant.1))
 
 pub returns : goal.returns
 returns g c =
     let n = c.args.n in
     let f : ℕ → ℕ = λ j. one (past n (g.S.Store.bytes c.args.s.now) c.args.i c.args.block j) in
-    let le : per_block n ≤ c.loop-j.j = omega (arith, c.block-counts-j-end.ensures.value) in
-    record { value = omega (arith, sum_none f c.loop-j.j (per_block n) le, c.loop-j.invariant.0); most = omega (arith, c.loop-j.invariant.1, c.block-counts-j-end.ensures.most, c.loop-j.auto.j-end) }
+    let le : per_block n ≤ c.loop-j.j = omega (arith, c.block_counts-j-end.ensures.value) in
+    record { value = omega (arith, sum_none f c.loop-j.j (per_block n) le, c.loop-j.invariant.0); most = omega (arith, c.loop-j.invariant.1, c.block_counts-j-end.ensures.most, c.loop-j.auto.j-end) }

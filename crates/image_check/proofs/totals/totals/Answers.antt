@@ -11,14 +11,14 @@ loop-h-preserved g c =
     let words = c.args.words.now in
     let i = c.loop-h.h in
     let lt = c.loop-h-test.true in
-    let x = c.references-of-references.result in
+    let x = c.references_of-references.result in
     let y = c.count-counted.result in
     let below : (a b : ℕ) → a ≡ get_or words i 0 % 2 ^ 28 → b ≡ count n bs i → one (ltb a b) ≡ one (ltb (get_or words i 0 % 2 ^ 28) (count n bs i)) = λ a b p q. ap (λ k. one (ltb k b)) p ∙ ap (λ k. one (ltb (get_or words i 0 % 2 ^ 28) k)) q in
     let above : (a b : ℕ) → a ≡ get_or words i 0 % 2 ^ 28 → b ≡ count n bs i → one (ltb b a) ≡ one (ltb (count n bs i) (get_or words i 0 % 2 ^ 28)) = λ a b p q. ap (λ k. one (ltb b k)) p ∙ ap (λ k. one (ltb k (get_or words i 0 % 2 ^ 28))) q in (
-      left_more (leaking n bs) words _ i _ lt (c.one-if.ensures.value ∙ below x y c.references-of-references.ensures.value c.count-counted.ensures.value) c.one-if.ensures.most c.loop-h.invariant.0,
-      left_more (lacking n bs) words _ i _ lt (c.one-if-in-loop-h.ensures.value ∙ above x y c.references-of-references.ensures.value c.count-counted.ensures.value) c.one-if-in-loop-h.ensures.most c.loop-h.invariant.1,
-      left_more mixing words _ i _ lt (c.one-if-in-loop-h-2.ensures.value ∙ ap (λ k. one (eqb k 15)) c.kind-of.ensures.value) c.one-if-in-loop-h-2.ensures.most c.loop-h.invariant.2,
-      left_more repeating words _ i _ lt (c.one-if-in-loop-h-3.ensures.value ∙ ap one c.repeats-by.ensures.value) c.one-if-in-loop-h-3.ensures.most c.loop-h.invariant.3,
+      left_more (leaking n bs) words _ i _ lt (c.one_if.ensures.value ∙ below x y c.references_of-references.ensures.value c.count-counted.ensures.value) c.one_if.ensures.most c.loop-h.invariant.0,
+      left_more (lacking n bs) words _ i _ lt (c.one_if-in-loop-h.ensures.value ∙ above x y c.references_of-references.ensures.value c.count-counted.ensures.value) c.one_if-in-loop-h.ensures.most c.loop-h.invariant.1,
+      left_more mixing words _ i _ lt (c.one_if-in-loop-h-2.ensures.value ∙ ap (λ k. one (eqb k 15)) c.kind_of.ensures.value) c.one_if-in-loop-h-2.ensures.most c.loop-h.invariant.2,
+      left_more repeating words _ i _ lt (c.one_if-in-loop-h-3.ensures.value ∙ ap one c.repeats_by.ensures.value) c.one_if-in-loop-h-3.ensures.most c.loop-h.invariant.3,
     )
 
 pub returns : goal.returns

@@ -15,10 +15,10 @@ all_run bs n e = take_all n bs (omega arith)
 pub returns : goal.returns
 returns g c =
     let bs = g.S.Store.bytes c.args.s.now in
-    let buffer = c.as-mut-slice.result.now in
+    let buffer = c.as_mut_slice.result.now in
     let out = c.read.new.out in
     let n = length buffer in
-    let whole : n ≡ length bs = c.as-mut-slice.ensures.len ∙ c.in-ok-all.ensures.len ∙ c.length.ensures.value in
+    let whole : n ≡ length bs = c.as_mut_slice.ensures.len ∙ c.in-ok-all.ensures.len ∙ c.length.ensures.value in
     let read : out ≡ bs = left_after c.read.result (load bs 0 n) buffer out c.read.ensures.outcome ∙ ap (after buffer) (loads bs 0 n bs (omega arith) (all_run bs n whole)) in
-    let items = refilled out c.in-ok-all.all.items c.in-ok-all.all.len (ap length read ∙ sym whole ∙ c.as-mut-slice.ensures.len) ∙ read in
+    let items = refilled out c.in-ok-all.all.items c.in-ok-all.all.len (ap length read ∙ sym whole ∙ c.as_mut_slice.ensures.len) ∙ read in
     record { items = items; held = subst (λ l. length l ≤ g.S.Store.limit c.args.s.now) (sym items) c.length.ensures.held }

@@ -12,7 +12,7 @@ loop-i-preserved g c =
     let f : ℕ → ℕ = λ k. word_in n (guest_entry n (g.S.Store.bytes c.args.s.now) c.args.l1 k) in
     let i = c.loop-i.i in
     let words = c.loop-i.words in
-    λ k lt. ap (λ x. get_or (set words i x) k 0) c.word-at.ensures.value ∙ fill_by_more f words i 0 (omega (arith, c.loop-i.auto.words)) c.loop-i.invariant k lt
+    λ k lt. ap (λ x. get_or (set words i x) k 0) c.word_at.ensures.value ∙ fill_by_more f words i 0 (omega (arith, c.loop-i.auto.words)) c.loop-i.invariant k lt
 
 pub returns : goal.returns
 returns g c =

@@ -12,14 +12,14 @@ returns-in-err-r g c =
     let p = err_from_is_err_and c.from-residual.result c.from-residual.ensures.1 in
     rw (p.1, p.2) (record { value = sym c.loop-i.invariant.2 ∙ one_bad n bs (many n) c.loop-i.i c.loop-i.at (kept c.loop-i.all) lt _ c.in-err-r.ensures.value })
 
-pub returns-in-err-judge-id : goal.returns-in-err-judge-id
-returns-in-err-judge-id g c =
+pub returns-in-err-judge_id : goal.returns-in-err-judge_id
+returns-in-err-judge_id g c =
     let n = c.args.n in
     let bs = g.S.Store.bytes c.args.s.now in
     let lt : c.loop-i.i < many n = omega arith in
-    let p = err_from_is_err_and c.from-residual-in-err-judge-id.result c.from-residual-in-err-judge-id.ensures.1 in
+    let p = err_from_is_err_and c.from-residual-in-err-judge_id.result c.from-residual-in-err-judge_id.ensures.1 in
     rw (p.1, p.2) (record {
-      value = sym c.loop-i.invariant.2 ∙ one-twice n bs (many n) c.loop-i.i c.loop-i.at (kept c.loop-i.all) lt c.in-ok-r.r c.in-ok-r.ensures.value _ c.in-err-judge-id.ensures.value;
+      value = sym c.loop-i.invariant.2 ∙ one-twice n bs (many n) c.loop-i.i c.loop-i.at (kept c.loop-i.all) lt c.in-ok-r.r c.in-ok-r.ensures.value _ c.in-err-judge_id.ensures.value;
     })
 
 pub loop-i-preserved : goal.loop-i-preserved
@@ -31,6 +31,6 @@ loop-i-preserved g c =
       c.push.ensures.count ∙ ap (λ k. k + 1) c.loop-i.invariant.0,
       c.in-ok-r.ensures.ends,
       ap (records_from n bs (many n - (c.loop-i.i + 1)) (c.loop-i.at + r.size)) c.push.ensures.kept
-          ∙ sym (one_more n bs (many n) c.loop-i.i c.loop-i.at (kept c.loop-i.all) lt r c.in-ok-r.ensures.value _ c.in-ok-judge-id.ensures.value)
+          ∙ sym (one_more n bs (many n) c.loop-i.i c.loop-i.at (kept c.loop-i.all) lt r c.in-ok-r.ensures.value _ c.in-ok-judge_id.ensures.value)
           ∙ c.loop-i.invariant.2,
     )

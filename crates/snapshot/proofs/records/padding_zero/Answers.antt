@@ -3,4 +3,4 @@ use Rattle.snapshot.proofs.records.padding_zero.Goals as goal
 
 pub returns : goal.returns
 unfolding run
-returns c = record { value = c.is-zero.ensures.value }
+returns c = record { value = c.is_zero.ensures.value }

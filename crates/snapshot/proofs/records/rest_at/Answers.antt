@@ -14,7 +14,7 @@ returns g c =
     let bs = g.S.Store.bytes c.args.s.now in
     let room = c.read.new.out in
     record {
-      value = rest_told n bs place h room c.record-good-or.result
+      value = rest_told n bs place h room c.record_good_or.result
           (ap (λ k. load bs place k) (sym c.requires.0) ∙ c.in-ok-read.ensures.outcome)
-          (c.record-good-or.ensures.value ∙ ap (λ t. record_good t place) c.rest-good.ensures.value);
+          (c.record_good_or.ensures.value ∙ ap (λ t. record_good t place) c.rest_good.ensures.value);
     }

@@ -4,7 +4,7 @@ use Rattle.store.specs.Calls.{left}
 use Rattle.store.specs.declared.calls.StoreCall.TheVariants.{Length}
 use Rattle.store.proofs.Agreement.{Midway, midway_start, midway_turn, midway_end, decides_moved, alike}
 use Rattle.store.proofs.calls.agree.Goals as goal
-use Rattle.store.proofs.calls.agree.Goals.{then-not-same-answer, else-not-same-answer}
+use Rattle.store.proofs.calls.agree.Goals.{then-not-same_answer, else-not-same_answer}
 
 pub loop-call-init : goal.loop-call-init
 loop-call-init g c = (refl, refl, midway_start _ _ _ _ _ _)
@@ -19,17 +19,17 @@ loop-call-preserved g c =
     let la = c.loop-call.invariant.0 in
     let lb = c.loop-call.invariant.1 in
     let room = length c.args.scratch.now / 2 in
-    let long : length c.loop-call.left ≡ room = c.loop-call.auto.left ∙ c.split-at-mut-left.ensures.front-len in
-    let d = decides_moved room _ _ _ _ _ call a b c.same-answer.result long la lb c.same-answer.ensures.value in (
-      c.same-answer.ensures.limits.0 ∙ la,
-      c.same-answer.ensures.limits.1 ∙ lb,
-      midway_turn room calls _ _ _ _ i a b c.loop-call.all c.loop-call-test.true c.loop-call.invariant.2 c.same-answer.result d
-          (g.A.Store.bytes c.same-answer.new.a) (g.B.Store.bytes c.same-answer.new.b)
-          (c.same-answer.ensures.first ∙ ap (left call a) la) (c.same-answer.ensures.second ∙ ap (left call b) lb)
-          c.if-not-same-answer.all
-          (elim c.if-not-same-answer.branch [
-            | then-not-same-answer w ↦ inr (w.if-not-same-answer.true, w.all-is)
-            | else-not-same-answer w ↦ inl (w.if-not-same-answer.false, w.all-is)
+    let long : length c.loop-call.left ≡ room = c.loop-call.auto.left ∙ c.split_at_mut-left.ensures.front-len in
+    let d = decides_moved room _ _ _ _ _ call a b c.same_answer.result long la lb c.same_answer.ensures.value in (
+      c.same_answer.ensures.limits.0 ∙ la,
+      c.same_answer.ensures.limits.1 ∙ lb,
+      midway_turn room calls _ _ _ _ i a b c.loop-call.all c.loop-call-test.true c.loop-call.invariant.2 c.same_answer.result d
+          (g.A.Store.bytes c.same_answer.new.a) (g.B.Store.bytes c.same_answer.new.b)
+          (c.same_answer.ensures.first ∙ ap (left call a) la) (c.same_answer.ensures.second ∙ ap (left call b) lb)
+          c.if-not-same_answer.all
+          (elim c.if-not-same_answer.branch [
+            | then-not-same-answer w ↦ inr (w.if-not-same_answer.true, w.all-is)
+            | else-not-same-answer w ↦ inl (w.if-not-same_answer.false, w.all-is)
           ]),
     )
 

@@ -13,4 +13,4 @@ returns g c =
     let was = c.in-ok-read.ensures.outcome in
     let run = loaded bs c.args.place 8 b was in
     let long : length b ≡ 8 = sym (ap length run.1) ∙ length_run bs c.args.place 8 run.0 in
-    record { value = ap (λ x. Ok x) (c.from-be-bytes.ensures ∙ sym (be_eight b long)) ∙ sym (ap (λ r. and_then r (λ l. Ok (be l))) was) }
+    record { value = ap (λ x. Ok x) (c.from_be_bytes.ensures ∙ sym (be_eight b long)) ∙ sym (ap (λ r. and_then r (λ l. Ok (be l))) was) }

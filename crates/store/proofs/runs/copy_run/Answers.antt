@@ -7,4 +7,4 @@ unfolding run
 returns c =
     let n = length c.args.out.now in
     let e : (c.args.at + n) - c.args.at ≡ n = omega arith in
-    record { after = c.copy-from-slice.ensures.after ∙ ap (λ k. take k (drop c.args.at c.args.list.now)) e }
+    record { after = c.copy_from_slice.ensures.after ∙ ap (λ k. take k (drop c.args.at c.args.list.now)) e }

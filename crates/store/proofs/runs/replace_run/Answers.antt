@@ -1,10 +1,10 @@
 use Rattle.std.proofs.Common.{◌≡◌, ◌+◌, ◌-◌, length, sym, ap, ◌∙◌, arith}
 use Rattle.byte_lists.specs.Runs.{put}
-use Rattle.byte_lists.proofs.Lent.{put_mid}
+use Rattle.byte_lists.proofs.Lent.{put_mid-is_put}
 use Rattle.store.proofs.runs.replace_run.Goals as goal
 
 pub returns : goal.returns
 returns c =
-    let new = c.copy-from-slice.ensures.after in
-    let e : (c.args.at + length c.args.new.now) - c.args.at ≡ length c.copy-from-slice.new.self = omega (arith, ap length new) in
-    record { after = put_mid c.args.list.now c.args.at _ c.copy-from-slice.new.self e ∙ ap (put c.args.list.now c.args.at) new }
+    let new = c.copy_from_slice.ensures.after in
+    let e : (c.args.at + length c.args.new.now) - c.args.at ≡ length c.copy_from_slice.new.self = omega (arith, ap length new) in
+    record { after = put_mid-is_put c.args.list.now c.args.at _ c.copy_from_slice.new.self e ∙ ap (put c.args.list.now c.args.at) new }

@@ -4,5 +4,5 @@ use Rattle.store.proofs.split.cut_at.Goals as goal
 
 pub returns : goal.returns
 returns c = record {
-  lies = across c.args.at c.args.n c.args.seam _ _ _ (c.min.ensures ∙ ap (min c.args.n) c.saturating-sub.ensures) c.min-2.ensures c.saturating-sub-2.ensures;
+  lies = across c.args.at c.args.n c.args.seam _ _ _ (c.min.ensures ∙ ap (min c.args.n) c.saturating_sub.ensures) c.min-2.ensures c.saturating_sub-2.ensures;
 }

@@ -5,5 +5,5 @@ use Rattle.store.proofs.split.octets_across.Goals as goal
 pub returns : goal.returns
 returns c = record {
   value = sym (length-append c.args.front.now c.args.back.now);
-  octets = octets_append c.args.front.now c.args.back.now c.length-of.ensures.octets c.length-of-2.ensures.octets;
+  octets = octets_append c.args.front.now c.args.back.now c.length_of.ensures.octets c.length_of-2.ensures.octets;
 }

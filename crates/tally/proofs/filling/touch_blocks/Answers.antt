@@ -10,7 +10,7 @@ pub loop-i-preserved : goal.loop-i-preserved
 loop-i-preserved g c =
     let f : ℕ → List Ref = λ i. named_block c.args.n (block_at c.args.n (g.S.Store.bytes c.args.s.now) i) in
     let lt : c.loop-i.i < blocks c.args.n = omega (arith, c.blocks-i-end.ensures.value) in
-    ap (all_touched Note (gather f (c.loop-i.i + 1) (blocks c.args.n - (c.loop-i.i + 1)))) c.touch-block.ensures.after
+    ap (all_touched Note (gather f (c.loop-i.i + 1) (blocks c.args.n - (c.loop-i.i + 1)))) c.touch_block.ensures.after
     ∙ sym (gather_more Note f c.loop-i.i (blocks c.args.n) c.loop-i.words lt)
     ∙ c.loop-i.invariant
 

@@ -9,7 +9,7 @@ use Rattle.tally.proofs.filling.touch_row.Goals as goal
 pub loop-i-preserved : goal.loop-i-preserved
 loop-i-preserved c =
     let f : ℕ → List Ref = λ i. record { kind = RefcountTable; host = c.args.first + i } ∷ [] in
-    ap (all_touched Note (gather f (c.loop-i.i + 1) (c.args.count - (c.loop-i.i + 1)))) c.touch-host.ensures.after
+    ap (all_touched Note (gather f (c.loop-i.i + 1) (c.args.count - (c.loop-i.i + 1)))) c.touch_host.ensures.after
     ∙ sym (gather_more Note f c.loop-i.i c.args.count c.loop-i.words c.loop-i-test.true)
     ∙ c.loop-i.invariant
 

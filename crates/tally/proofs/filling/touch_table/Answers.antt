@@ -2,11 +2,11 @@ use Rattle.std.proofs.Common.{◌+◌, ◌*◌, ◌/◌, ◌^◌, ◌<◌, ◌�
 use Rattle.std.proofs.lemmas.Nat.{mul-le, div_below}
 use Rattle.tally.proofs.filling.touch_table.Goals as goal
 
-pub touch-row-requires : goal.touch-row-requires
-touch-row-requires c =
+pub touch_row-requires : goal.touch_row-requires
+touch_row-requires c =
     let x = c.args.n.refcounts in
-    let k = c.cluster-size.result in
-    let wide : (2 ^ 55 + 1) * 512 ≤ (2 ^ 55 + 1) * k = mul-le (2 ^ 55 + 1) 512 (2 ^ 55 + 1) k (omega arith) c.cluster-size.ensures.least in
+    let k = c.cluster_size.result in
+    let wide : (2 ^ 55 + 1) * 512 ≤ (2 ^ 55 + 1) * k = mul-le (2 ^ 55 + 1) 512 (2 ^ 55 + 1) k (omega arith) c.cluster_size.ensures.least in
     let small : x < 2 ^ 64 = omega arith in
-    let low : x / k < 2 ^ 55 + 1 = div_below x k (2 ^ 55 + 1) (omega (arith, c.cluster-size.ensures.least)) (omega (arith, wide)) in
+    let low : x / k < 2 ^ 55 + 1 = div_below x k (2 ^ 55 + 1) (omega (arith, c.cluster_size.ensures.least)) (omega (arith, wide)) in
     (omega arith, omega (arith, c.min.ensures))

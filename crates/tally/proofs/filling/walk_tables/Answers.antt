@@ -10,7 +10,7 @@ loop-r-preserved g c =
     let bs = g.S.Store.bytes c.args.s.now in
     let rs = c.args.list.now in
     let i = c.loop-r.r-index in
-    ap (all_walked n bs (drop (i + 1) rs)) c.walk-table.ensures.after ∙ sym (ap (λ l. all_walked n bs l c.loop-r.words) (drop_more rs i no_snapshot c.loop-r-test.true)) ∙ c.loop-r.invariant
+    ap (all_walked n bs (drop (i + 1) rs)) c.walk_table.ensures.after ∙ sym (ap (λ l. all_walked n bs l c.loop-r.words) (drop_more rs i no_snapshot c.loop-r-test.true)) ∙ c.loop-r.invariant
 
 pub returns : goal.returns
 returns g c =

@@ -4,6 +4,6 @@ use Rattle.disk.proofs.rescued.RescuedDiskDisk.sectors.Goals as goal
 
 pub returns : goal.returns
 returns c = record {
-  value = c.sectors-in.ensures.value;
-  sound = sound_rescued c.args.self.now.list.now c.args.self.now.spoiled.now (subst (λ n. n ≤ 2 ^ 55) c.sectors-in.ensures.value c.sectors-in.ensures.most) c.sectors-in.ensures.octets;
+  value = c.sectors_in.ensures.value;
+  sound = sound_rescued c.args.self.now.list.now c.args.self.now.spoiled.now (subst (λ n. n ≤ 2 ^ 55) c.sectors_in.ensures.value c.sectors_in.ensures.most) c.sectors_in.ensures.octets;
 }

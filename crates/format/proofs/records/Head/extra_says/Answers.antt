@@ -2,5 +2,5 @@ use Rattle.std.proofs.Common.{arith}
 use Rattle.format.proofs.Recorded.{extra_some}
 use Rattle.format.proofs.records.Head.extra_says.Goals as goal
 
-pub extra-fits-requires : goal.extra-fits-requires
-extra-fits-requires c = omega (arith, c.requires.0, extra_some c.args.n c.args.self c.requires.1 c.if-self-eq0.false)
+pub extra_fits-requires : goal.extra_fits-requires
+extra_fits-requires c = omega (arith, c.requires.0, extra_some c.args.n c.args.self c.requires.1 c.if-self-eq0.false)

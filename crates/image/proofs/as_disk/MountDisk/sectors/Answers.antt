@@ -5,6 +5,6 @@ pub returns : goal.returns
 returns g c =
     let m = c.args.self.now in
     record {
-      value = c.mount-sectors.ensures.value;
+      value = c.mount_sectors.ensures.value;
       sound = sound_mount m.header (g.S.Store.bytes m.store) (g.B.Disk.reading m.backing) c.length.ensures.octets c.sectors.ensures.sound;
     }

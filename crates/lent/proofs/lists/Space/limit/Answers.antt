@@ -9,4 +9,4 @@ both (Flat n) = omega arith
 both (Split m n) = refl
 
 pub returns : goal.returns
-returns c = record { value = omega (arith, c.saturating-add.ensures, c.first.ensures.value, c.second.ensures.value, both c.args.self) }
+returns c = record { value = omega (arith, c.saturating_add.ensures, c.first.ensures.value, c.second.ensures.value, both c.args.self) }

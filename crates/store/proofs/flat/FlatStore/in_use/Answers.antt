@@ -7,6 +7,6 @@ returns c =
     let used = c.args.self.now.used in
     let list = c.args.self.now.list.now in
     record {
-      value = c.min.ensures ∙ ap (min used) c.length-of.ensures.value ∙ sym (length-take used list);
-      octets = octets_take used list c.length-of.ensures.octets;
+      value = c.min.ensures ∙ ap (min used) c.length_of.ensures.value ∙ sym (length-take used list);
+      octets = octets_take used list c.length_of.ensures.octets;
     }

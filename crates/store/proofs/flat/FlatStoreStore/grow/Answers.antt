@@ -10,13 +10,13 @@ returns c =
     let s = c.args.self.now in
     let list = s.list.now in
     let n = c.args.length in
-    let used = c.in-use-used.result in
-    let is : used ≡ length (flat_bytes s) = c.in-use-used.ensures.value in
+    let used = c.in_use-used.result in
+    let is : used ≡ length (flat_bytes s) = c.in_use-used.ensures.value in
     let low : used ≤ n = c.if-length-used.false in
     let high : n ≤ length list = c.if-length-self.false in
     let front = ap (λ k. take k list) is ∙ take-length list s.used in
     record {
       outcome = grows (flat_bytes s) (flat_limit s) n _ (omega arith) high
-          (ap (λ l. grow l n) (sym front) ∙ sym (take-put-zeros list used n low high) ∙ ap (take n) (sym c.clear-run.ensures.after));
-      limit = ap length c.clear-run.ensures.after ∙ length-put list used (zeros (n - used)) (omega (arith, length-zeros (n - used)));
+          (ap (λ l. grow l n) (sym front) ∙ sym (take-put-zeros list used n low high) ∙ ap (take n) (sym c.clear_run.ensures.after));
+      limit = ap length c.clear_run.ensures.after ∙ length-put list used (zeros (n - used)) (omega (arith, length-zeros (n - used)));
     }

@@ -7,6 +7,6 @@ pub returns : goal.returns
 returns c =
     let s = c.args.self.now in
     record {
-      value = c.min.ensures ∙ ap (min s.used) c.octets-across.ensures.value ∙ sym (length-take s.used (joined s));
-      octets = octets_take s.used (joined s) c.octets-across.ensures.octets;
+      value = c.min.ensures ∙ ap (min s.used) c.octets_across.ensures.value ∙ sym (length-take s.used (joined s));
+      octets = octets_take s.used (joined s) c.octets_across.ensures.octets;
     }

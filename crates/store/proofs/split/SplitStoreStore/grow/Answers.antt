@@ -6,10 +6,10 @@ use Rattle.store.proofs.Outcomes.{grows}
 use Rattle.store.proofs.Seams.{clear_seam}
 use Rattle.store.proofs.split.SplitStoreStore.grow.Goals as goal
 
-pub clear-run-requires-2 : goal.clear-run-requires-2
-clear-run-requires-2 c =
+pub clear_run-requires-2 : goal.clear_run-requires-2
+clear_run-requires-2 c =
     let s = c.args.self.now in
-    let lies = c.cut-at-before.ensures.lies in
+    let lies = c.cut_at-before.ensures.lies in
     let high : c.args.length ≤ length (joined s) = omega (arith, c.most.ensures.value) in
     omega (arith, lies.back, lies.few, length-append s.front.now s.back.now)
 
@@ -19,19 +19,19 @@ returns c =
     let a = s.front.now in
     let b = s.back.now in
     let to = c.args.length in
-    let used = c.in-use-used.result in
+    let used = c.in_use-used.result in
     let n = to - used in
-    let k = c.cut-at-before.result.before in
-    let low = c.cut-at-before.result.low in
-    let high = c.cut-at-before.result.high in
-    let lies = c.cut-at-before.ensures.lies in
-    let is : used ≡ length (split_bytes s) = c.in-use-used.ensures.value in
+    let k = c.cut_at-before.result.before in
+    let low = c.cut_at-before.result.low in
+    let high = c.cut_at-before.result.high in
+    let lies = c.cut_at-before.ensures.lies in
+    let is : used ≡ length (split_bytes s) = c.in_use-used.ensures.value in
     let least : used ≤ to = c.if-length-used.false in
     let most : to ≤ length (joined s) = omega (arith, c.most.ensures.value) in
     let front = ap (λ m. take m (joined s)) is ∙ take-length (joined s) s.used in
-    let both : c.clear-run.new.list ++ c.clear-run-2.new.list ≡ put (joined s) used (zeros n) =
-    ap (λ l. l ++ c.clear-run-2.new.list) c.clear-run.ensures.after
-    ∙ ap (λ l. put a low (zeros k) ++ l) c.clear-run-2.ensures.after
+    let both : c.clear_run.new.list ++ c.clear_run-2.new.list ≡ put (joined s) used (zeros n) =
+    ap (λ l. l ++ c.clear_run-2.new.list) c.clear_run.ensures.after
+    ∙ ap (λ l. put a low (zeros k) ++ l) c.clear_run-2.ensures.after
     ∙ clear_seam a b used k low high n (omega (arith, length-append a b)) lies in
     record {
       outcome = grows (split_bytes s) (split_limit s) to _ (omega arith) most

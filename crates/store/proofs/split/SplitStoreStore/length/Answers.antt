@@ -3,4 +3,4 @@ use Rattle.store.specs.Split.{joined}
 use Rattle.store.proofs.split.SplitStoreStore.length.Goals as goal
 
 pub returns : goal.returns
-returns c = record { value = c.in-use.ensures.value; octets = c.in-use.ensures.octets; held = omega (arith, length-take c.args.self.now.used (joined c.args.self.now)) }
+returns c = record { value = c.in_use.ensures.value; octets = c.in_use.ensures.octets; held = omega (arith, length-take c.args.self.now.used (joined c.args.self.now)) }

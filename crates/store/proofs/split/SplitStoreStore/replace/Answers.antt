@@ -7,13 +7,13 @@ use Rattle.byte_lists.proofs.Lent.{length_tail}
 use Rattle.store.proofs.Seams.{put_seam}
 use Rattle.store.proofs.split.SplitStoreStore.replace.Goals as goal
 
-pub replace-run-requires-2 : goal.replace-run-requires-2
-replace-run-requires-2 c =
+pub replace_run-requires-2 : goal.replace_run-requires-2
+replace_run-requires-2 c =
     let s = c.args.self.now in
     let new = c.args.new.now in
-    let k = c.cut-at-before.result.before in
-    let lies = c.cut-at-before.ensures.lies in
-    let fits = passed (c.args.first + length new) _ _ c.if-not-within.ensures.value c.in-use.ensures.value in
+    let k = c.cut_at-before.result.before in
+    let lies = c.cut_at-before.ensures.lies in
+    let fits = passed (c.args.first + length new) _ _ c.if-not-within.ensures.value c.in_use.ensures.value in
     let total = (front_within (joined s) s.used _ fits).1 in
     let sum = length-append s.front.now s.back.now in
     let part = length_tail new k (length new) refl in
@@ -27,20 +27,20 @@ returns c =
     let b = s.back.now in
     let new = c.args.new.now in
     let at = c.args.first in
-    let k = c.cut-at-before.result.before in
-    let low = c.cut-at-before.result.low in
-    let high = c.cut-at-before.result.high in
-    let lies = c.cut-at-before.ensures.lies in
-    let fits = passed (at + length new) _ _ c.if-not-within.ensures.value c.in-use.ensures.value in
+    let k = c.cut_at-before.result.before in
+    let low = c.cut_at-before.result.low in
+    let high = c.cut_at-before.result.high in
+    let lies = c.cut_at-before.ensures.lies in
+    let fits = passed (at + length new) _ _ c.if-not-within.ensures.value c.in_use.ensures.value in
     let front = front_within (joined s) s.used (at + length new) fits in
     let sum : at + length new ≤ length a + length b = omega (arith, length-append a b, front.1) in
     let cut : k - 0 ≡ k = omega arith in
     let x = take (k - 0) new in
     let y = take (length new - k) (drop k new) in
-    let f : c.replace-run.new.list ≡ put a low x = c.replace-run.ensures.after in
-    let g : c.replace-run-2.new.list ≡ put b high y = c.replace-run-2.ensures.after in
-    let both : c.replace-run.new.list ++ c.replace-run-2.new.list ≡ put (joined s) at new =
-    ap (λ l. l ++ c.replace-run-2.new.list) f ∙ ap (λ l. put a low x ++ l) g ∙ put_seam a b at k low high new x y sum lies (ap (λ m. take m new) cut) refl in
+    let f : c.replace_run.new.list ≡ put a low x = c.replace_run.ensures.after in
+    let g : c.replace_run-2.new.list ≡ put b high y = c.replace_run-2.ensures.after in
+    let both : c.replace_run.new.list ++ c.replace_run-2.new.list ≡ put (joined s) at new =
+    ap (λ l. l ++ c.replace_run-2.new.list) f ∙ ap (λ l. put a low x ++ l) g ∙ put_seam a b at k low high new x y sum lies (ap (λ m. take m new) cut) refl in
     record {
       outcome = stores (split_bytes s) at new _ fits (sym (take_put (joined s) s.used at new front.0 front.1) ∙ ap (take s.used) (sym both));
       limit = ap length both ∙ length-put (joined s) at new front.1;
