@@ -10,7 +10,7 @@ use Rattle.create.proofs.create.Goals as goal
 pub wanted-n-requires : goal.wanted-n-requires
 wanted-n-requires g c =
     let w = wanted c.args.version c.args.bits c.args.size (length c.args.name.now) in
-    let ok = granted w _ _ _ (sym c.in-ok-judge_wish.ensures.value) in
+    let ok = granted w _ _ _ (sym c.in_ok-judge_wish.ensures.value) in
     let few = needed_few w ok.size in
     let most = cluster_most c.args.bits in
     let small : needed w < 2 ^ 32 = omega arith in
@@ -22,8 +22,8 @@ returns g c =
     let w = wanted c.args.version c.args.bits c.args.size (length name) in
     let len = length (g.S.Store.bytes c.args.s.now) in
     let limit = g.S.Store.limit c.args.s.now in
-    let judged : create_judged w len limit ≡ Ok c.in-ok-judge_wish.field-0 =
-    ap (λ k. create_judged w k limit) (sym c.length.ensures.value) ∙ ap (create_judged w c.length.result) (sym c.limit.ensures.value) ∙ sym c.in-ok-judge_wish.ensures.value in
+    let judged : create_judged w len limit ≡ Ok c.in_ok-judge_wish.field-0 =
+    ap (λ k. create_judged w k limit) (sym c.length.ensures.value) ∙ ap (create_judged w c.length.result) (sym c.limit.ensures.value) ∙ sym c.in_ok-judge_wish.ensures.value in
     let ok = granted w len limit _ judged in
     let made : g.S.Store.bytes c.fill.new.s ≡ created w name = c.fill.ensures.bytes ∙ ap (λ n. created n name) c.wanted-n.ensures.value in
     record {

@@ -4,16 +4,16 @@ use Rattle.fault.proofs.Outcomes.{each_bad, each-good, each_none}
 use Rattle.guest.specs.Shown.{guest_entry}
 use Rattle.mapping.proofs.maps.judge_entries.Goals as goal
 
-pub returns-in-err-entry_of : goal.returns-in-err-entry_of
-returns-in-err-entry_of g c =
+pub returns-in_err-entry_of : goal.returns-in_err-entry_of
+returns-in_err-entry_of g c =
     let f = guest_entry c.args.n (g.S.Store.bytes c.args.s.now) c.args.l1 in
-    let p = err_from_is_err_and c.from-residual.result c.from-residual.ensures.1 in
-    rw (p.1, p.2) (record { value = sym (sym c.loop-g.invariant ∙ each_bad f c.loop-g.g c.args.clusters c.loop-g-test.true _ c.in-err-entry_of.ensures.value) })
+    let p = err_from_is_err_and c.from_residual.result c.from_residual.ensures.1 in
+    rw (p.1, p.2) (record { value = sym (sym c.loop-g.invariant ∙ each_bad f c.loop-g.g c.args.clusters c.loop-g-test.true _ c.in_err-entry_of.ensures.value) })
 
 pub loop-g-preserved : goal.loop-g-preserved
 loop-g-preserved g c =
     let f = guest_entry c.args.n (g.S.Store.bytes c.args.s.now) c.args.l1 in
-    sym (each-good f c.loop-g.g c.args.clusters c.loop-g-test.true _ c.in-ok-entry_of.ensures.value) ∙ c.loop-g.invariant
+    sym (each-good f c.loop-g.g c.args.clusters c.loop-g-test.true _ c.in_ok-entry_of.ensures.value) ∙ c.loop-g.invariant
 
 pub returns : goal.returns
 returns g c =

@@ -11,8 +11,8 @@ returns-in-Ok g c =
     let t = c.in-Ok.totals in
     let out = c.check.new.words in
     let outcome = check_outcome m.header (g.S.Store.bytes m.store) in
-    let blank : c.as_mut_slice.result.now ≡ blank_words c.args.count = c.as_mut_slice.ensures.value ∙ c.in-ok-words.ensures.items-if-clones-equal (λ y h. h) in
-    let kept : length out ≡ c.in-ok-words.words.len = omega (arith, c.check.auto.words, c.as_mut_slice.ensures.len) in
+    let blank : c.as_mut_slice.result.now ≡ blank_words c.args.count = c.as_mut_slice.ensures.value ∙ c.in_ok-words.ensures.items_if_clones_equal (λ y h. h) in
+    let kept : length out ≡ c.in_ok-words.words.len = omega (arith, c.check.auto.words, c.as_mut_slice.ensures.len) in
     let is : outcome (blank_words c.args.count) ≡ Ok (record { totals = t; words = out }) = ap outcome (sym blank) ∙ c.in-Ok.ensures.answer in
     let marked : State → Bool → State = λ s b. record { store = s.store; mounted = Some (record { header = c.args.mounted.header; clean = b }); disk = s.disk } in
     record {

@@ -9,6 +9,6 @@ pub returns-in-Ok : goal.returns-in-Ok
 returns-in-Ok g c =
     let m = c.args.mount in
     let out = c.map.new.words in
-    let blank : c.as_mut_slice.result.now ≡ blank_words c.args.count = c.as_mut_slice.ensures.value ∙ c.in-ok-words.ensures.items-if-clones-equal (λ y h. h) in
-    let kept : length out ≡ c.in-ok-words.words.len = omega (arith, c.map.auto.words, c.as_mut_slice.ensures.len) in
+    let blank : c.as_mut_slice.result.now ≡ blank_words c.args.count = c.as_mut_slice.ensures.value ∙ c.in_ok-words.ensures.items_if_clones_equal (λ y h. h) in
+    let kept : length out ≡ c.in_ok-words.words.len = omega (arith, c.map.auto.words, c.as_mut_slice.ensures.len) in
     record { told = ap listed (take_at out _ _ kept) ∙ sym (ap lists c.in-Ok.ensures.outcome) ∙ ap (λ ws. lists (map_outcome m.header (g.S.Store.bytes m.store) c.args.id.now ws)) blank }

@@ -19,7 +19,7 @@ loop-call-preserved g c =
     let la = c.loop-call.invariant.0 in
     let lb = c.loop-call.invariant.1 in
     let room = length c.args.scratch.now / 2 in
-    let long : length c.loop-call.left ≡ room = c.loop-call.auto.left ∙ c.split_at_mut-left.ensures.front-len in
+    let long : length c.loop-call.left ≡ room = c.loop-call.auto.left ∙ c.split_at_mut-left.ensures.front_len in
     let d = decides_moved room _ _ _ _ _ call a b c.same_answer.result long la lb c.same_answer.ensures.value in (
       c.same_answer.ensures.limits.0 ∙ la,
       c.same_answer.ensures.limits.1 ∙ lb,
@@ -28,8 +28,8 @@ loop-call-preserved g c =
           (c.same_answer.ensures.first ∙ ap (left call a) la) (c.same_answer.ensures.second ∙ ap (left call b) lb)
           c.if-not-same_answer.all
           (elim c.if-not-same_answer.branch [
-            | then-not-same-answer w ↦ inr (w.if-not-same_answer.true, w.all-is)
-            | else-not-same-answer w ↦ inl (w.if-not-same_answer.false, w.all-is)
+            | then-not-same_answer w ↦ inr (w.if-not-same_answer.true, w.all-is)
+            | else-not-same_answer w ↦ inl (w.if-not-same_answer.false, w.all-is)
           ]),
     )
 

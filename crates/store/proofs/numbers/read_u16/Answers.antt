@@ -10,7 +10,7 @@ pub returns : goal.returns
 returns g c =
     let bs = g.S.Store.bytes c.args.s.now in
     let b = c.read.new.out in
-    let was = c.in-ok-read.ensures.outcome in
+    let was = c.in_ok-read.ensures.outcome in
     let run = loaded bs c.args.place 2 b was in
     let long : length b ≡ 2 = sym (ap length run.1) ∙ length_run bs c.args.place 2 run.0 in
     record { value = ap (λ x. Ok x) (c.from_be_bytes.ensures ∙ sym (be_two b long)) ∙ sym (ap (λ r. and_then r (λ l. Ok (be l))) was) }

@@ -5,18 +5,18 @@ use Rattle.tables.specs.Refcounts.{blocks}
 use Rattle.walk.specs.References.{block_at}
 use Rattle.walk.proofs.judging.judge_blocks.Goals as goal
 
-pub returns-in-err-block_at : goal.returns-in-err-block_at
-returns-in-err-block_at g c =
+pub returns-in_err-block_at : goal.returns-in_err-block_at
+returns-in_err-block_at g c =
     let f = block_at c.args.n (g.S.Store.bytes c.args.s.now) in
     let lt : c.loop-i.i < blocks c.args.n = omega (arith, c.blocks-i-end.ensures.value) in
-    let p = err_from_is_err_and c.from-residual.result c.from-residual.ensures.1 in
-    rw (p.1, p.2) (record { value = sym (sym c.loop-i.invariant ∙ each_bad f c.loop-i.i (blocks c.args.n) lt _ c.in-err-block_at.ensures.value) })
+    let p = err_from_is_err_and c.from_residual.result c.from_residual.ensures.1 in
+    rw (p.1, p.2) (record { value = sym (sym c.loop-i.invariant ∙ each_bad f c.loop-i.i (blocks c.args.n) lt _ c.in_err-block_at.ensures.value) })
 
 pub loop-i-preserved : goal.loop-i-preserved
 loop-i-preserved g c =
     let f = block_at c.args.n (g.S.Store.bytes c.args.s.now) in
     let lt : c.loop-i.i < blocks c.args.n = omega (arith, c.blocks-i-end.ensures.value) in
-    sym (each-good f c.loop-i.i (blocks c.args.n) lt _ c.in-ok-block_at.ensures.value) ∙ c.loop-i.invariant
+    sym (each-good f c.loop-i.i (blocks c.args.n) lt _ c.in_ok-block_at.ensures.value) ∙ c.loop-i.invariant
 
 pub returns : goal.returns
 returns g c =

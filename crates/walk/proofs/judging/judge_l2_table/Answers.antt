@@ -5,11 +5,11 @@ use Rattle.fault.proofs.Outcomes.{each_bad, each-good, each_none}
 use Rattle.walk.specs.References.{l2_at}
 use Rattle.walk.proofs.judging.judge_l2_table.Goals as goal
 
-pub returns-in-err-l2_at : goal.returns-in-err-l2_at
-returns-in-err-l2_at g c =
+pub returns-in_err-l2_at : goal.returns-in_err-l2_at
+returns-in_err-l2_at g c =
     let f = l2_at c.args.n (g.S.Store.bytes c.args.s.now) c.args.l2 in
-    let p = err_from_is_err_and c.from-residual.result c.from-residual.ensures.1 in
-    rw (p.1, p.2) (record { value = sym (sym c.loop-g.invariant ∙ each_bad f c.loop-g.g (c.args.first + c.table_entries.result) c.loop-g-test.true _ c.in-err-l2_at.ensures.value) })
+    let p = err_from_is_err_and c.from_residual.result c.from_residual.ensures.1 in
+    rw (p.1, p.2) (record { value = sym (sym c.loop-g.invariant ∙ each_bad f c.loop-g.g (c.args.first + c.table_entries.result) c.loop-g-test.true _ c.in_err-l2_at.ensures.value) })
 
 pub loop-g-init : goal.loop-g-init
 loop-g-init g c = ap (each (l2_at c.args.n (g.S.Store.bytes c.args.s.now) c.args.l2) c.args.first) (omega (arith, c.table_entries.ensures.value))
@@ -17,7 +17,7 @@ loop-g-init g c = ap (each (l2_at c.args.n (g.S.Store.bytes c.args.s.now) c.args
 pub loop-g-preserved : goal.loop-g-preserved
 loop-g-preserved g c =
     let f = l2_at c.args.n (g.S.Store.bytes c.args.s.now) c.args.l2 in
-    sym (each-good f c.loop-g.g (c.args.first + c.table_entries.result) c.loop-g-test.true _ c.in-ok-l2_at.ensures.value) ∙ c.loop-g.invariant
+    sym (each-good f c.loop-g.g (c.args.first + c.table_entries.result) c.loop-g-test.true _ c.in_ok-l2_at.ensures.value) ∙ c.loop-g.invariant
 
 pub returns : goal.returns
 returns g c =

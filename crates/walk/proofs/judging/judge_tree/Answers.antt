@@ -5,18 +5,18 @@ use Rattle.walk.specs.References.{entries_of}
 use Rattle.walk.specs.Walk.{branch_judged}
 use Rattle.walk.proofs.judging.judge_tree.Goals as goal
 
-pub returns-in-err-judge_branch : goal.returns-in-err-judge_branch
-returns-in-err-judge_branch g c =
+pub returns-in_err-judge_branch : goal.returns-in_err-judge_branch
+returns-in_err-judge_branch g c =
     let f = branch_judged c.args.n (g.S.Store.bytes c.args.s.now) c.args.l1 in
     let lt : c.loop-i.i < entries_of c.args.n = omega (arith, c.l1_entries-i-end.ensures.value) in
-    let p = err_from_is_err_and c.from-residual.result c.from-residual.ensures.1 in
-    rw (p.1, p.2) (record { value = sym (sym c.loop-i.invariant ∙ each_bad f c.loop-i.i (entries_of c.args.n) lt _ c.in-err-judge_branch.ensures.value) })
+    let p = err_from_is_err_and c.from_residual.result c.from_residual.ensures.1 in
+    rw (p.1, p.2) (record { value = sym (sym c.loop-i.invariant ∙ each_bad f c.loop-i.i (entries_of c.args.n) lt _ c.in_err-judge_branch.ensures.value) })
 
 pub loop-i-preserved : goal.loop-i-preserved
 loop-i-preserved g c =
     let f = branch_judged c.args.n (g.S.Store.bytes c.args.s.now) c.args.l1 in
     let lt : c.loop-i.i < entries_of c.args.n = omega (arith, c.l1_entries-i-end.ensures.value) in
-    sym (each-good f c.loop-i.i (entries_of c.args.n) lt _ c.in-ok-judge_branch.ensures.value) ∙ c.loop-i.invariant
+    sym (each-good f c.loop-i.i (entries_of c.args.n) lt _ c.in_ok-judge_branch.ensures.value) ∙ c.loop-i.invariant
 
 pub returns : goal.returns
 returns g c =

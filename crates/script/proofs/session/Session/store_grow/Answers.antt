@@ -13,6 +13,6 @@ returns c =
     let s = c.store-s.result in
     let bytes = c.store-s.ensures.bytes in
     let most = c.store-s.ensures.limit in
-    let here = sym (ap (option_map lists_kept) c.in-Some.is) ∙ c.in-ok-lists.ensures.kept in
+    let here = sym (ap (option_map lists_kept) c.in-Some.is) ∙ c.in_ok-lists.ensures.kept in
     let left = c.grow-r.new.self in
     record { stepped = refill (state c.args.self.now) (ask.store_grow c.args.length) (lists_kept c.in-Some.lists) (λ k. grown k.content k.limit c.args.length) refl here c.grow-r.result _ (any_bytes s) (any_bytes left) (any_limit left) (ap (λ b. grown b (any_limit s) c.args.length) bytes ∙ ap (λ l. grown (lists_kept c.in-Some.lists).content l c.args.length) most) bytes (c.grow-r.ensures.limit ∙ most) c.grow-r.ensures.outcome c.left.result c.left.ensures.left }

@@ -13,6 +13,6 @@ returns c =
     let s = c.store-s.result in
     let bytes = c.store-s.ensures.bytes in
     let most = c.store-s.ensures.limit in
-    let here = sym (ap (option_map lists_kept) c.in-Some.is) ∙ c.in-ok-lists.ensures.kept in
+    let here = sym (ap (option_map lists_kept) c.in-Some.is) ∙ c.in_ok-lists.ensures.kept in
     let left = c.replace-r.new.self in
     record { stepped = refill (state c.args.self.now) (ask.store_replace c.args.first c.args.new.now) (lists_kept c.in-Some.lists) (λ k. stored k.content c.args.first c.args.new.now) refl here c.replace-r.result _ (any_bytes s) (any_bytes left) (any_limit left) (ap (λ b. stored b c.args.first c.args.new.now) bytes) bytes (c.replace-r.ensures.limit ∙ most) c.replace-r.ensures.outcome c.left.result c.left.ensures.left }
