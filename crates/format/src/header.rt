@@ -1,7 +1,7 @@
 // Judging a header: the first bytes of a store, to its numbers or the first fault.
 ghost use Rattle.std.specs.Prelude.{◌≡◌, ◌+◌, ◌≤◌, Bool, true, false, length, drop, if◌then◌else◌, MatchOption, nat_eq, nat_le};
 ghost use Rattle.byte_lists.specs.Numbers.{number};
-ghost use Rattle.format.specs.Header.{good, fields_from, header as header_of, header_of, opens, kind_judged, places_judged, version_good, bits_good, length_good, header_good, size_good, table_good, extent_good, records_good, letters_good, name_good};
+ghost use Rattle.format.specs.Header.{good, fields_from, header as header_in, header_of, opens, kind_judged, places_judged, version_good, bits_good, length_good, header_good, size_good, table_good, extent_good, records_good, letters_good, name_good};
 
 use crate::numbers::Numbers;
 use byte_lists::{u32_at, u64_at};
@@ -220,7 +220,7 @@ pub fn judge(first: &[u8], length: u64) -> Result<Numbers, Fault>
 
 // Judges the header of a store.
 pub fn judge_store<S: Store>(s: &S) -> Result<Numbers, Fault>
-    ensures value { result ≡ header_of (S.Store.bytes s.now) }
+    ensures value { result ≡ header_in (S.Store.bytes s.now) }
 {
     let mut first = [0u8; 512];
     let length = s.length();

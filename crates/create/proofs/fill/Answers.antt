@@ -28,6 +28,6 @@ returns g c =
     record {
       bytes = e₅
           ∙ ap (laid (table_fields (cluster n))) (e₄ ∙ ap (laid (header_fields n)) (e₃ ∙ ap (laid (shared_fields n)) (e₂ ∙ ap (λ l. after l (stored l n.name name)) e₁)))
-          ∙ filled n name c.requires.2 bs limit c.requires.0 c.requires.1;
+          ∙ filled n name c.requires.name_bound bs limit c.requires.s_len c.requires.n_bound;
       limit = c.lay-2.ensures.limit ∙ c.lay_late.ensures.limit ∙ c.lay.ensures.limit ∙ c.replace.ensures.limit ∙ c.grow.ensures.limit;
     }

@@ -13,5 +13,5 @@ returns g c =
     record {
       value = c.record_good_or.ensures.value
           ∙ ap (λ t. record_good t place) c.rest_good.ensures.value
-          ∙ sym (ap (λ k. and_then (load bs place k) (λ r. record_good (rest_good n h r) place)) (sym c.requires.0) ∙ ap (λ x. and_then x (λ r. record_good (rest_good n h r) place)) c.in_ok-read.ensures.outcome);
+          ∙ sym (ap (λ k. and_then (load bs place k) (λ r. record_good (rest_good n h r) place)) (sym c.requires.room_len) ∙ ap (λ x. and_then x (λ r. record_good (rest_good n h r) place)) c.in_ok-read.ensures.outcome);
     }

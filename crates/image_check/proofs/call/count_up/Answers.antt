@@ -23,7 +23,7 @@ returns g c =
     let zero' : List ℕ = replicate k 0 in
     let cleared : c.fill.new.self ≡ zero' = c.fill.ensures.after (λ y e. e) in
     let long : length zero' ≡ k = length-replicate {A = ℕ} k 0 in
-    let same : length zero' ≡ clusters_of n bs = long ∙ c.requires.0 in
+    let same : length zero' ≡ clusters_of n bs = long ∙ c.requires.words_len in
     let blank : (h : ℕ) → h < length zero' → get_or zero' h 0 ≡ 0 = λ h lt. get_or-replicate k h 0 0 (subst (λ x. h < x) long lt) in
     let words : c.fill-2.new.words ≡ filled n bs rs zero' = c.fill-2.ensures.after ∙ ap (filled n bs rs) cleared in
     let turned : (f : ℕ → ℕ → Bool) → sum_by f c.fill-2.new.words (length c.fill-2.new.words) ≡ sum_by f (filled n bs rs zero') (length zero') =

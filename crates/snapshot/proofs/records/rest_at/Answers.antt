@@ -15,6 +15,6 @@ returns g c =
     let room = c.read.new.out in
     record {
       value = rest_told n bs place h room c.record_good_or.result
-          (ap (λ k. load bs place k) (sym c.requires.0) ∙ c.in_ok-read.ensures.outcome)
+          (ap (λ k. load bs place k) (sym c.requires.room_len) ∙ c.in_ok-read.ensures.outcome)
           (c.record_good_or.ensures.value ∙ ap (λ t. record_good t place) c.rest_good.ensures.value);
     }
