@@ -4,7 +4,7 @@
 --   month_days   the days of a month of a year, from 0 for January
 --   years        the days of the first n years from 1970 on
 --   months       the days of the first m months of a year
-use Rattle.std.specs.Prelude.{ℕ, zero, suc, ◌+◌, ◌%◌, Bool, true, false, cond, not, ◌&&◌, ◌||◌, ◌==◌}
+use Rattle.std.specs.Prelude.{ℕ, zero, suc, ◌+◌, ◌%◌, Bool, cond, not, ◌&&◌, ◌||◌, ◌==◌}
 
 abbrev pub leap : ℕ → Bool
 leap y = y % 4 == 0 && (not (y % 100 == 0) || y % 400 == 0)

@@ -2,7 +2,7 @@
 #![tactic(auto)]
 
 ghost use Rattle.std.specs.Prelude.{◌≡◌, ℕ, ◌+◌, ◌-◌, ◌*◌, ◌/◌, ◌%◌, ◌<◌, ◌≤◌, Bool};
-ghost use Rattle.calendar.specs.Days.{leap as leap_of, year_days as year_days, month_days as month_days, years, months};
+ghost use Rattle.calendar.specs.Days.{leap as leap_of, year_days, month_days, years, months};
 
 use std::fmt;
 

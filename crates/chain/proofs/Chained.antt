@@ -13,7 +13,7 @@ use Rattle.format.specs.Clusters.{per_cluster}
 use Rattle.format.specs.declared.entries.Entry.{Entry}
 use Rattle.store.specs.Words.{held}
 use Rattle.guest.specs.Shown.{guest_sectors, mount_sectors, mount_reading, guest_entry, passed_up, under, entry_shows, shows}
-use Rattle.guest.proofs.Sounding.{sound_mount}
+use Rattle.guest.proofs.Sounding.{sound_mount, mount_reading-by_sector, sector_by_sector}
 use Rattle.chain.specs.Chains.{chain_of}
 
 module _ {L : Type 0} (header : L → Result Numbers Fault) (bytes : L → List ℕ) (base : Reading) where
@@ -40,27 +40,30 @@ module _ {L : Type 0} (header : L → Result Numbers Fault) (bytes : L → List 
     unfolding below
     top = chain_top ls x some first ∙ ap (λ r. mount_reading (header x) (bytes x) (chain_of header bytes r base)) (sym others)
 
+    seen : chain_of header bytes ls base ≡ sector_by_sector (header x) (bytes x) below
+    seen = top ∙ mount_reading-by_sector (header x) (bytes x) below
+
     pub top_sectors : (chain_of header bytes ls base).sectors ≡ mount_sectors (header x)
-    top_sectors = ap (λ r. r.sectors) top
+    top_sectors = ap (λ r. r.sectors) seen
 
     pub top_sound : Octets (bytes x) → Sound (chain_of header bytes rest base) → Sound (chain_of header bytes ls base)
     unfolding below
     top_sound o s = subst Sound (sym top) (sound_mount (header x) (bytes x) below o s)
 
     pub top_past : (s : ℕ) → mount_sectors (header x) ≤ s → (chain_of header bytes ls base).answer s ≡ past_end s
-    top_past s h = ap (λ r. r.answer s) top ∙ cond-false (ltb s (mount_sectors (header x))) _ _ (le-ltb s (mount_sectors (header x)) h)
+    top_past s h = ap (λ r. r.answer s) seen ∙ cond-false (ltb s (mount_sectors (header x))) _ _ (le-ltb s (mount_sectors (header x)) h)
 
     pub top_bad : (s : ℕ) (f : Fault) → s < mount_sectors (header x) → header x ≡ Err f → (chain_of header bytes ls base).answer s ≡ Err f
     unfolding below
     top_bad s f lt e =
-        ap (λ r. r.answer s) top ∙ cond-true (ltb s (mount_sectors (header x))) _ _ (lt-ltb s (mount_sectors (header x)) lt)
+        ap (λ r. r.answer s) seen ∙ cond-true (ltb s (mount_sectors (header x))) _ _ (lt-ltb s (mount_sectors (header x)) lt)
         ∙ ap (λ h. and_then h λ n. shows n (bytes x) (chain_of header bytes rest base) n.l1 s) e
 
     module _ (s : ℕ) (n : Numbers) (lt : s < mount_sectors (header x)) (is : header x ≡ Ok n) where
       shown : (chain_of header bytes ls base).answer s ≡ shows n (bytes x) below n.l1 s
       unfolding below
       shown =
-          ap (λ r. r.answer s) top ∙ cond-true (ltb s (mount_sectors (header x))) _ _ (lt-ltb s (mount_sectors (header x)) lt)
+          ap (λ r. r.answer s) seen ∙ cond-true (ltb s (mount_sectors (header x))) _ _ (lt-ltb s (mount_sectors (header x)) lt)
           ∙ ap (λ h. and_then h λ m. shows m (bytes x) (chain_of header bytes rest base) m.l1 s) is
 
       pub top_entry_bad : (f : Fault) → Err f ≡ guest_entry n (bytes x) n.l1 (s / per_cluster n) → (chain_of header bytes ls base).answer s ≡ Err f

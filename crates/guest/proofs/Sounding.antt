@@ -10,7 +10,7 @@ use Rattle.byte_lists.specs.Runs.{run, zeros, Octets}
 use Rattle.byte_lists.proofs.Runs.{length-zeros, length_run}
 use Rattle.byte_lists.proofs.Octets.{octets_zeros, octets_run}
 use Rattle.store.specs.Stores.{load}
-use Rattle.disk.specs.Readings.{Reading, Sound}
+use Rattle.disk.specs.Readings.{Reading, Sound, shown}
 use Rattle.disk.proofs.Sounds.{Whole, sound_shown}
 use Rattle.format.specs.declared.numbers.Numbers.{Numbers}
 use Rattle.format.specs.declared.entries.Entry.{Entry}
@@ -54,3 +54,11 @@ module _ (n : Numbers) (bs : List ℕ) (backing : Reading) (o : Octets bs) (soun
 pub sound_mount : (header : Result Numbers Fault) (bs : List ℕ) (backing : Reading) → Octets bs → Sound backing → Sound (mount_reading header bs backing)
 sound_mount (Ok n) bs backing o sound = sound_table n bs backing o sound n.l1
 sound_mount (Err f) bs backing o sound = sound_shown (2 ^ 55) (λ s. Err f) (omega arith) (λ s. tt)
+
+-- the same reading with the header judged at each sector, and the number of sectors named
+abbrev pub sector_by_sector : Result Numbers Fault → List ℕ → Reading → Reading
+sector_by_sector header bs backing = shown (mount_sectors header) (λ s. and_then header λ n. shows n bs backing n.l1 s)
+
+pub mount_reading-by_sector : (header : Result Numbers Fault) (bs : List ℕ) (backing : Reading) → mount_reading header bs backing ≡ sector_by_sector header bs backing
+mount_reading-by_sector (Ok n) bs backing = refl
+mount_reading-by_sector (Err f) bs backing = refl

@@ -41,7 +41,7 @@ mod tests {
         let text = "# found by the copy\n5\n\n  17 # twice\n0\n";
         match spoiled_in(rt.alloc(), text)? {
             Spoiled::Sectors(v) => {
-                assert!(rt; v.as_slice() == &[5, 17, 0]);
+                assert!(rt; v.as_slice() == [5, 17, 0].as_slice());
                 Ok(())
             },
             Spoiled::BadLine(_) => Err(Fail::new("refused")),

@@ -3,7 +3,7 @@
 --   without    a list without one element
 --   one        a refcount is 1
 --   mine       a cluster has one reference; cluster 0, which an empty entry names, never
---   table_at    the L2 table of an L1 entry of the live table; entry_at: an L2 entry under the live table; table_of: a snapshot's L1 table
+--   table_at   the L2 table of an L1 entry of the live table; entry_at: an L2 entry under the live table; table_of: a snapshot's L1 table
 --   unmark     the L2 table of a write in place: written only if the entry was marked
 --   in_place, move_data, move_both   a write in which nothing moves, the data moves, the L2 table and the data move
 --   write      new bytes for one guest cluster: what moves is decided by the refcounts before the call

@@ -8,7 +8,7 @@
 --   seen      what an L2 entry shows
 --   Shape     how bytes are read and written as tables; for a byte layout to fill in
 --   Laws      what a shape promises
-use Rattle.std.specs.Prelude.{◌≡◌, ℕ, ◌<◌, Bool, true, false, cond, List, length, set, replicate, ◌==◌, slice_index, slice_index_or, slice_set}
+use Rattle.std.specs.Prelude.{◌≡◌, ℕ, ◌<◌, Bool, true, false, cond, List, length, replicate, ◌==◌, slice_index, slice_index_or, slice_set}
 
 abbrev pub Cluster : Type 0
 Cluster = List ℕ

@@ -2,7 +2,7 @@
 #![tactic(auto)]
 
 ghost use Rattle.std.specs.Prelude.{◌≡◌, ℕ, ◌+◌, ◌-◌, ◌<◌, ◌≤◌, true, false, length, IfSome, MatchOption, slice_index};
-ghost use Rattle.runs.specs.Words.{goes_on, kind_of as kind_of};
+ghost use Rattle.runs.specs.Words.{goes_on, kind_of};
 
 #[derive(Clone, Copy)]
 pub enum Kind {

@@ -13,5 +13,5 @@ returns c =
     let n = c.args.letters in
     let x = c.copy_from_slice.new.self in
     let is : x ≡ run r at n = c.copy_from_slice.ensures.after ∙ ap (λ k. take k (drop at r)) (omega arith) in
-    let long : length x ≡ n = ap length is ∙ length_run r at n c.requires.0 in
+    let long : length x ≡ n = ap length is ∙ length_run r at n c.requires.letters_in_bounds in
     record { value = front_grown 16 n x long ∙ ap (λ l. grow l 16) is }
