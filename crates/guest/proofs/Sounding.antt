@@ -16,7 +16,7 @@ use Rattle.format.specs.declared.numbers.Numbers.{Numbers}
 use Rattle.format.specs.declared.entries.Entry.{Entry}
 use Rattle.format.specs.Clusters.{per_cluster}
 use Rattle.store.specs.Words.{held}
-use Rattle.guest.specs.Shown.{guest_entry, guest_sectors, passed_up, under, entry_shows, shows, table_reading, mount_reading}
+use Rattle.guest.specs.Shown.{guest_entry, guest_sectors, mount_sectors, passed_up, under, entry_shows, shows, table_reading, mount_reading}
 
 whole_zeros : Whole (Ok (zeros 512))
 whole_zeros = (length-zeros 512, octets_zeros 512)

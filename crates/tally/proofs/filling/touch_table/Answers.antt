@@ -9,4 +9,4 @@ touch_row-requires c =
     let wide : (2 ^ 55 + 1) * 512 ≤ (2 ^ 55 + 1) * k = mul-le (2 ^ 55 + 1) 512 (2 ^ 55 + 1) k (omega arith) c.cluster_size.ensures.least in
     let small : x < 2 ^ 64 = omega arith in
     let low : x / k < 2 ^ 55 + 1 = div_below x k (2 ^ 55 + 1) (omega (arith, c.cluster_size.ensures.least)) (omega (arith, wide)) in
-    (omega arith, omega (arith, c.min.ensures))
+    record { first_bound = omega arith; count_bound = omega (arith, c.min.ensures) }
