@@ -1,12 +1,12 @@
 // `qcow check`: whether an image's refcounts and copied flags are what its tables say.
 use crate::args::{Arguments, message};
 use crate::images;
-use image_check::check;
 use disk::ZerosDisk;
 use image::Mount;
+use image_check::check;
 use layers::{Stop, load_alone};
 use std::io;
-use std::io::{BufWriter, Write};
+use std::io::{BufWriter, IsTerminal, Write};
 use store::Store;
 
 pub(crate) const USAGE: &str = "qcow check [--tally] FILE";
@@ -64,7 +64,7 @@ pub(crate) fn run(rt: &HostRuntime, given: Vec<String>) -> Result<(), Stop> {
     let mut m = Mount::new(load_alone(rt, path.as_str())?, ZerosDisk::new(0));
     let n = images::granted(heap, paths, m.numbers())?;
     let clusters = m.store.length() / n.cluster_size();
-    if clusters > MANY && libc::isatty(2) == 1 {
+    if clusters > MANY && rt.stderr().is_terminal() {
         eprintln!(rt; "checking {clusters} clusters")?;
     }
     let mut words = vec![in heap; 0u32; clusters as usize]?;

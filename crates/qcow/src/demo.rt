@@ -1,10 +1,10 @@
 // The default task: a store and a disk of each kind and a new image, with what each answered.
-use image_check::check;
 use create::create;
 use disk::{Disk, RawDisk, RescuedDisk, ZerosDisk};
 use fault::Fault;
 use format::Numbers;
 use image::Mount;
+use image_check::check;
 use mapping::{copy_out, map};
 use runs::{Kind, Run, run_at};
 use store::{FlatStore, SplitStore, Store, StoreCall, agree};

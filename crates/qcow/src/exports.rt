@@ -66,7 +66,7 @@ fn put(file: &mut File, piece: &[u8]) -> io::Result<()> {
 fn copy_all<S: Store, B: Disk>(work: &Work, m: &Mount<S, B>, file: &mut File) -> Result<(), Stop> {
     let heap = work.rt.alloc();
     let mut piece = vec![in heap; 0u8; PIECE as usize * 512]?;
-    let mut progress = Progress::new(work.sectors);
+    let mut progress = Progress::new(work.rt, work.sectors);
     let mut first: u64 = 0;
     for _ in 0..work.sectors / PIECE + 1 {
         let count = work.sectors.saturating_sub(first).min(PIECE);

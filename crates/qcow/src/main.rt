@@ -3,7 +3,7 @@
 
 mod args;
 mod checks;
-mod create;
+mod creation;
 mod demo;
 mod exports;
 mod files;
@@ -18,11 +18,12 @@ mod snapshots;
 use anyhow::anyhow;
 use layers::Stop;
 use std::env;
+use std::process::ExitCode;
 
 fn usage(rt: &HostRuntime) -> Result<(), Stop> {
     rt.eprintln("usage:")?;
     rt.eprintln("  qcow              shows stores, disks and images at work")?;
-    eprintln!(rt; "  {}", create::USAGE)?;
+    eprintln!(rt; "  {}", creation::USAGE)?;
     eprintln!(rt; "  {}", info::USAGE)?;
     eprintln!(rt; "  {}", maps::USAGE)?;
     eprintln!(rt; "  {}", reads::USAGE)?;
@@ -30,8 +31,7 @@ fn usage(rt: &HostRuntime) -> Result<(), Stop> {
     eprintln!(rt; "  {}", snapshots::USAGE)?;
     eprintln!(rt; "  {}", checks::USAGE)?;
     rt.eprintln("  qcow script       runs the calls on standard input, a line each")?;
-    let stop: anyhow::Error = "no such task".into();
-    Err(Stop::Other(stop))
+    Err(Stop::Other(anyhow!("no such task")))
 }
 
 fn run(rt: &HostRuntime) -> Result<(), Stop> {
@@ -45,7 +45,7 @@ fn run(rt: &HostRuntime) -> Result<(), Stop> {
         given.push(word)?;
     }
     match task.as_str() {
-        "create" => create::run(rt, given),
+        "create" => creation::run(rt, given),
         "info" => info::run(rt, given),
         "map" => maps::run(rt, given),
         "read" => reads::run(rt, given),
@@ -57,12 +57,12 @@ fn run(rt: &HostRuntime) -> Result<(), Stop> {
     }
 }
 
-fn main(rt: HostRuntime) -> anyhow::Result<()> {
+fn main(rt: HostRuntime) -> ExitCode {
     match run(&rt) {
-        Ok(()) => Ok(()),
+        Ok(()) => ExitCode::SUCCESS,
         Err(e) => {
-            eprintln!(rt; "qcow: {e}")?;
-            Err(anyhow!("stopped"))
+            let _ = eprintln!(rt; "qcow: {e}");
+            ExitCode::FAILURE
         }
     }
 }

@@ -1,4 +1,6 @@
 // How far long work has come, on standard error and only where that is a terminal.
+use std::io::IsTerminal;
+
 #[derive(Drop)]
 pub(crate) struct Progress {
     seen: bool,
@@ -9,9 +11,9 @@ pub(crate) struct Progress {
 }
 
 impl Progress {
-    pub(crate) fn new(whole: u64) -> Progress {
+    pub(crate) fn new(rt: &HostRuntime, whole: u64) -> Progress {
         Progress {
-            seen: libc::isatty(2) == 1,
+            seen: rt.stderr().is_terminal(),
             part: (whole / 100).max(1),
             last: 0,
         }

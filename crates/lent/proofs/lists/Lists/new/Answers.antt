@@ -1,4 +1,4 @@
-use Rattle.std.proofs.Common.{◌≡◌, ℕ, ◌-◌, min, List, length, take, drop, vec_items, sym, ap, ◌∙◌}
+use Rattle.std.proofs.Common.{◌≡◌, ◌-◌, min, length, take, drop, vec_items, ap, ◌∙◌}
 use Rattle.lent.specs.Lists.{laid, first_limit, second_limit, in_use, in_all}
 use Rattle.lent.proofs.Laying.{laid_bytes, laid_limit, behind}
 use Rattle.lent.proofs.lists.Lists.new.Goals as goal

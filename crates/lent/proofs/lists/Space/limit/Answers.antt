@@ -1,4 +1,4 @@
-use Rattle.std.proofs.Common.{◌≡◌, ℕ, ◌+◌, ◌-◌, ◌^◌, min, refl, ap, ◌∙◌, arith}
+use Rattle.std.proofs.Common.{◌≡◌, ◌+◌, refl, arith}
 use Rattle.lent.specs.Lists.{first_limit, second_limit, space_limit}
 use Rattle.lent.specs.declared.lists.Space.{Space}
 use Rattle.lent.specs.declared.lists.Space.TheVariants.{Flat, Split}
