@@ -4,9 +4,6 @@ use disk::{Disk, RawDisk, RescuedDisk, ZerosDisk};
 use fault::Fault;
 use format::Numbers;
 use image::Mount;
-use image_check::check;
-use mapping::{copy_out, map};
-use runs::{Kind, Run, run_at};
 use store::{FlatStore, SplitStore, Store, StoreCall, agree};
 
 fn report(rt: &HostRuntime, what: &str, r: Result<(), Fault>) -> anyhow::Result<()> {
@@ -118,53 +115,7 @@ fn use_reads<S: Store, B: Disk>(rt: &HostRuntime, m: &Mount<S, B>) -> anyhow::Re
         rt,
         "read it through the mount as a disk",
         m.read_sector(128, &mut buffer),
-    )?;
-    report(
-        rt,
-        "peek at sector 1 of a snapshot that is not there",
-        m.peek(b"7", 1, &mut buffer),
     )
-}
-
-// The map of a new image of 128 clusters, and a sector by it.
-fn use_map<S: Store, B: Disk>(rt: &HostRuntime, m: &Mount<S, B>) -> anyhow::Result<()> {
-    let mut words = [0xeeee_eeeeu32; 128];
-    report(rt, "map the live disk", map(m, b"", &mut words))?;
-    if let Some(
-        Run {
-            length,
-            kind: Kind::Empty,
-            ..
-        },
-    ) = run_at(&words, 0)
-    {
-        println!(rt; "  it begins with {length} empty clusters")?;
-    }
-    let mut copied = [0xeeu8; 512];
-    report(
-        rt,
-        "copy sector 1 out by the map",
-        copy_out(m, &words, 1, &mut copied),
-    )?;
-    let mut buffer = [0u8; 512];
-    report(rt, "read it", m.read(1, &mut buffer))?;
-    let same = copied == buffer;
-    println!(rt; "  both gave the same bytes: {same}")?;
-    Ok(())
-}
-
-// Every count and flag of the image, held against its tables.
-fn use_check<S: Store, B: Disk>(rt: &HostRuntime, m: &mut Mount<S, B>) -> anyhow::Result<()> {
-    let mut words = [0u32; 8];
-    let (leaked, short, mixed, repeated, flags) = match check(m, &mut words) {
-        Ok(totals) => totals,
-        Err(f) => return report(rt, "check", Err(f)),
-    };
-    let clean = m.clean;
-    println!(rt;
-        "  checked: {leaked} leaked, {short} short, {mixed} mixed, {repeated} repeated, {flags} wrong flags; clean: {clean}"
-    )?;
-    Ok(())
 }
 
 // A new image, mounted; the same store once more; and a store that holds no image.
@@ -182,11 +133,9 @@ fn use_image(rt: &HostRuntime) -> anyhow::Result<()> {
         create(&mut s, 3, 9, 65536, b""),
     )?;
     let master = [5u8; 700];
-    let mut m = Mount::new(s, RawDisk::new(&master));
+    let m = Mount::new(s, RawDisk::new(&master));
     show_numbers(rt, &m)?;
     use_reads(rt, &m)?;
-    use_map(rt, &m)?;
-    use_check(rt, &mut m)?;
     let mut other = [0u8; 1024];
     let m = Mount::new(FlatStore::new(&mut other, 1024), ZerosDisk::new(0));
     match m.numbers() {
