@@ -9,7 +9,7 @@
 --   record_line   an answer, and then the length and the digest of the store's bytes in use
 use Rattle.std.specs.Prelude.{ℕ, ◌/◌, ◌%◌, List, [], ◌∷◌, ◌++◌, length, vec_items, codes, decimal}
 use Rattle.std.specs.Char.{digit_char}
-use Rattle.fault.specs.Faults.{shown as fault-shown}
+use Rattle.fault.specs.Faults.{shown as fault_shown}
 use Rattle.fault.specs.declared.Fault.{Fault}
 use Rattle.byte_lists.specs.Numbers.{be_bytes}
 use Rattle.answer.specs.Digest.{digest}
@@ -64,7 +64,7 @@ shown (number n) = codes "ok " ++ decimal n
 shown (bytes bs) = bytes_shown bs
 shown (listed ws) = codes "ok " ++ words_shown ws
 shown (checked t ws) = codes "ok " ++ (totals_shown t ++ (codes " " ++ words_shown ws))
-shown (refused f) = codes "fault " ++ fault-shown f
+shown (refused f) = codes "fault " ++ fault_shown f
 shown (mistaken words) = codes "error " ++ words
 
 abbrev pub record_line : Told → List ℕ → List ℕ

@@ -1,5 +1,5 @@
 -- What a list holds after a list of numbers was set. Assumes nothing.
-use Rattle.std.proofs.Common.{◌≡◌, ℕ, zero, suc, ◌+◌, ◌^◌, ◌<◌, ◌≤◌, ◌⊎◌, List, [], ◌∷◌, length, get_or, sym, refl, ap, ◌∙◌, subst, inl, inr, arith}
+use Rattle.std.proofs.Common.{◌≡◌, ℕ, zero, suc, ◌+◌, ◌^◌, ◌<◌, ◌≤◌, List, [], ◌∷◌, length, get_or, sym, refl, ap, ◌∙◌, subst, inl, arith}
 use Rattle.byte_lists.specs.Runs.{run, Octets}
 use Rattle.byte_lists.specs.Numbers.{be, number, spell}
 use Rattle.byte_lists.specs.Fields.{field, spelled, Ordered}

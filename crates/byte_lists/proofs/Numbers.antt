@@ -1,5 +1,5 @@
 -- Laws of big-endian numbers: round trips, and what a number is after each edit. Assumes nothing.
-use Rattle.std.proofs.Common.{◌≡◌, ℕ, zero, suc, ◌+◌, ◌-◌, ◌*◌, ◌/◌, ◌%◌, ◌^◌, ◌<◌, ◌≤◌, leb, ◌⊎◌, List, [], ◌∷◌, ◌++◌, length, get_or, drop, Some, None, sym, refl, ap, ◌∙◌, subst, inl, inr, add-zero, mod-eq_of_lt, mul_assoc, add-mul, zero-add, div-one, arith, length-drop}
+use Rattle.std.proofs.Common.{◌≡◌, ℕ, zero, suc, ◌+◌, ◌*◌, ◌/◌, ◌%◌, ◌^◌, ◌<◌, ◌≤◌, leb, ◌⊎◌, List, [], ◌∷◌, length, get_or, drop, Some, None, sym, refl, ap, ◌∙◌, subst, inl, inr, add-zero, mod-eq_of_lt, mul_assoc, add-mul, zero-add, div-one, arith, length-drop}
 use native.Mathlib.Nat.{pow-succ', mod-one}
 use lib.Arith.{mod-mul, digits_div, digits_mod, digits_lt}
 use borrow.Rule.Slice.PartMut.{put_mid}

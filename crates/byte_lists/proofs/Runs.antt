@@ -1,9 +1,8 @@
 -- Laws of runs, replacements and growth: what each is after each. Assumes nothing.
-use Rattle.std.proofs.Common.{◌≡◌, ℕ, zero, suc, ◌+◌, ◌-◌, ◌*◌, ◌<◌, ◌≤◌, min, ◌⊎◌, List, [], ◌∷◌, ◌++◌, length, get_or, take, drop, replicate, sym, refl, ap, ◌∙◌, subst, inl, inr, append_assoc, append-nil, add-zero, arith, length-append, length-drop, length-take}
+use Rattle.std.proofs.Common.{◌≡◌, ℕ, ◌+◌, ◌-◌, ◌<◌, ◌≤◌, ◌⊎◌, List, [], ◌++◌, length, get_or, take, drop, sym, refl, ap, ◌∙◌, inl, inr, append-nil, add-zero, arith, length-append, length-drop, length-take}
 use lib.ListN.{length-replicate}
-use Rattle.std.proofs.lemmas.List.{places, same_lists, get_or-take, get_or-drop, get_or_past, take_all, drop_all, take-take, drop-drop, take_at, drop_at, take-append-le, drop-append-le, get_or_append_left, get_or-append_right, get_or-replicate, take-replicate, drop-replicate, replicate-append-replicate, take-append-drop}
-use Rattle.std.proofs.lemmas.Bool.{cases_lt}
-use Rattle.byte_lists.specs.Runs.{run, put, zeros, grow, Octets}
+use Rattle.std.proofs.lemmas.List.{places, same_lists, get_or-take, get_or-drop, take_all, drop_all, drop-drop, take_at, drop_at, take-replicate, drop-replicate, take-append-drop}
+use Rattle.byte_lists.specs.Runs.{run, put, zeros, grow}
 
 -- a run inside the list has the length asked for
 pub length_run : (bs : List ℕ) (at n : ℕ) → at + n ≤ length bs → length (run bs at n) ≡ n

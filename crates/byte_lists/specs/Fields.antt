@@ -1,7 +1,7 @@
 -- Lists of big-endian numbers at their places. Assumes nothing.
 --   spelled   a list with each number set, one after another
 --   Ordered   the numbers stand in ascending order from a place on, apart from each other, up to an end
-use Rattle.std.specs.Prelude.{ℕ, ◌+◌, ◌^◌, ◌<◌, ◌≤◌, List, [], ◌∷◌}
+use Rattle.std.specs.Prelude.{ℕ, ◌+◌, ◌≤◌, List, [], ◌∷◌}
 use Rattle.byte_lists.specs.Numbers.{spell}
 use Rattle.byte_lists.specs.declared.Field.{Field}
 

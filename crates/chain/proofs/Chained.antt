@@ -1,7 +1,7 @@
 -- A chain by its top layer: what it shows and what is below. Assumes nothing.
 use Rattle.std.proofs.Common.{◌≡◌, ℕ, ◌+◌, ◌-◌, ◌*◌, ◌/◌, ◌%◌, ◌^◌, ◌<◌, ◌≤◌, min, Bool, true, false, cond, not, ◌&&◌, ◌||◌, eqb, ltb, leb, List, [], ◌∷◌, length, get_or, take, drop, Ok, Err, Result, sym, refl, ap, ◌∙◌, subst, inl, inr, arith}
 use Rattle.std.proofs.lemmas.List.{take_rest}
-use Rattle.std.proofs.lemmas.Bool.{cond-true, cond-false, lt-ltb, le-ltb, le-leb, lt-leb, ltb-true, ltb-false, and_parts, and_cases, eqb-true, not-true, not-false, or_left, or_right, or_from, false≢true}
+use Rattle.std.proofs.lemmas.Bool.{cond-true, cond-false, lt-ltb, le-ltb, le-leb, lt-leb, ltb-true, ltb-false, and_parts, and_cases, not-true, not-false, or_left, or_right, or_from, false≢true}
 use Rattle.fault.specs.declared.Fault.{Fault}
 use Rattle.fault.specs.Outcomes.{and_then}
 use Rattle.byte_lists.specs.Runs.{zeros, Octets}
@@ -12,7 +12,7 @@ use Rattle.format.specs.declared.numbers.Numbers.{Numbers}
 use Rattle.format.specs.Clusters.{per_cluster}
 use Rattle.format.specs.declared.entries.Entry.{Entry}
 use Rattle.store.specs.Words.{held}
-use Rattle.guest.specs.Shown.{guest_sectors, mount_sectors, mount_reading, guest_entry, passed_up, under, entry_shows, shows}
+use Rattle.guest.specs.Shown.{mount_sectors, mount_reading, guest_entry, passed_up, under, entry_shows, shows}
 use Rattle.guest.proofs.Sounding.{sound_mount, mount_reading-by_sector, sector_by_sector}
 use Rattle.chain.specs.Chains.{chain_of}
 

@@ -1,5 +1,5 @@
 -- The numbers of a wish that was granted are good for four clusters. Assumes nothing.
-use Rattle.std.proofs.Common.{◌≡◌, ℕ, ◌+◌, ◌*◌, ◌/◌, ◌%◌, ◌^◌, ◌<◌, ◌≤◌, Bool, true, false, cond, not, ◌&&◌, ◌||◌, eqb, leb, ◌⊎◌, List, length, Ok, Err, Result, sym, refl, ap, ◌∙◌, subst, inl, inr, mul-div_cancel, arith}
+use Rattle.std.proofs.Common.{◌≡◌, ℕ, ◌+◌, ◌*◌, ◌/◌, ◌%◌, ◌^◌, ◌<◌, ◌≤◌, Bool, true, not, eqb, leb, ◌⊎◌, List, length, Ok, Result, refl, ap, ◌∙◌, inl, inr, mul-div_cancel, arith}
 use native.Mathlib.Nat.{mul-mod_left, mod_self}
 use Rattle.std.proofs.lemmas.Bool.{and_from, or_left, or_right, eq-eqb, ne_eqb, le-leb, cond-true, cond-false, cases_eq, not_from_false}
 use Rattle.fault.specs.declared.Fault.{Fault}
@@ -7,8 +7,8 @@ use Rattle.fault.specs.declared.Reason.{Reason}
 use Rattle.fault.specs.declared.Reason.TheVariants.{NotQcow2, Version, ClusterBits, StoreLength, HeaderForm, GuestSize, TablePlace, BackingName}
 use Rattle.fault.specs.Outcomes.{and_then}
 use Rattle.format.specs.declared.numbers.Numbers.{Numbers}
-use Rattle.format.specs.Clusters.{cluster, cluster_of, per_table}
-use Rattle.format.specs.Header.{good, version_good, bits_good, length_good, header_good, size_good, table_good, extent_good, records_good, letters_good, name_good, needed, kind_judged, places_judged, judged, header, fields, opens}
+use Rattle.format.specs.Clusters.{cluster, cluster_of}
+use Rattle.format.specs.Header.{good, version_good, bits_good, length_good, header_good, size_good, table_good, letters_good, name_good, needed, kind_judged, places_judged, judged, header, fields}
 use Rattle.format.proofs.Clusters.{cluster_least, cluster_most}
 use Rattle.create.specs.Create.{wanted, header_length, name_place, created}
 use Rattle.create.proofs.Wishes.{Granted, needed_few, letters_few, version_is, bits_few}

@@ -1,19 +1,18 @@
 -- What create made is judged good, with the numbers asked for. Assumes nothing.
-use Rattle.std.proofs.Common.{◌≡◌, ℕ, ◌+◌, ◌-◌, ◌*◌, ◌/◌, ◌%◌, ◌^◌, ◌<◌, ◌≤◌, Bool, true, false, cond, not, ◌&&◌, ◌||◌, eqb, leb, ◌⊎◌, List, [], ◌∷◌, length, get_or, drop, Ok, Err, Result, sym, refl, ap, ◌∙◌, subst, inl, inr, zero-add, arith}
-use Rattle.std.proofs.lemmas.Bool.{and_from, or_left, or_right, eq-eqb, ne_eqb, le-leb, cond-true, cond-false, cases_eq, not_from_false}
-use Rattle.byte_lists.specs.Runs.{run, put}
+use Rattle.std.proofs.Common.{◌≡◌, ℕ, ◌+◌, ◌*◌, ◌^◌, ◌<◌, ◌≤◌, true, cond, eqb, ◌⊎◌, List, [], length, get_or, drop, sym, ap, ◌∙◌, inl, inr, zero-add, arith}
+use Rattle.std.proofs.lemmas.Bool.{eq-eqb, ne_eqb, cond-true, cond-false}
+use Rattle.byte_lists.specs.Runs.{run}
 use Rattle.byte_lists.specs.Numbers.{be, be_bytes, number, spell}
-use Rattle.byte_lists.specs.Fields.{field, spelled, Ordered}
-use Rattle.byte_lists.specs.declared.Field.{Field}
+use Rattle.byte_lists.specs.Fields.{field, spelled}
 use Rattle.byte_lists.proofs.Runs.{get_or-run, run-put_same}
 use Rattle.byte_lists.proofs.Numbers.{length-spell, length-be_bytes}
 use Rattle.byte_lists.proofs.Fields.{number_spelled, run-spelled_below}
 use Rattle.format.specs.declared.numbers.Numbers.{Numbers}
-use Rattle.format.specs.Clusters.{cluster, cluster_of}
-use Rattle.format.specs.Header.{opens, fields, judged, header}
-use Rattle.format.proofs.Clusters.{cluster_least, cluster_most}
+use Rattle.format.specs.Clusters.{cluster}
+use Rattle.format.specs.Header.{opens, fields}
+use Rattle.format.proofs.Clusters.{cluster_least}
 use Rattle.format.proofs.Headers.{opens_from}
-use Rattle.create.specs.Create.{wanted, header_length, name_place, shared_fields, late_fields, header_fields, table_fields, created}
+use Rattle.create.specs.Create.{shared_fields, late_fields, header_fields, table_fields, created}
 use Rattle.create.proofs.Filling.{named, shared, headed, length-named, length_shared, length_headed, length-created}
 use Rattle.create.proofs.Lists.{shared_ordered, late_ordered, header_ordered, table_ordered}
 

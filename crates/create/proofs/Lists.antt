@@ -1,9 +1,8 @@
 -- The lists of fields of a new image are in order. Assumes nothing.
-use Rattle.std.proofs.Common.{◌≡◌, ℕ, ◌+◌, ◌*◌, ◌≤◌, cond, eqb, List, [], ◌∷◌, arith}
+use Rattle.std.proofs.Common.{ℕ, ◌*◌, ◌≤◌, eqb, [], arith}
 use Rattle.std.specs.List.{AllByRecursion as All}
 use Rattle.std.proofs.lemmas.Bool.{cond_both}
 use Rattle.byte_lists.specs.Fields.{Ordered}
-use Rattle.byte_lists.specs.declared.Field.{Field}
 use Rattle.format.specs.declared.numbers.Numbers.{Numbers}
 use Rattle.create.specs.Create.{shared_fields, late_fields, header_fields, table_fields}
 

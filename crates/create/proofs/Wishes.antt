@@ -1,6 +1,6 @@
 -- What is known of a wish that was not refused. Assumes nothing.
-use Rattle.std.proofs.Common.{◌≡◌, ℕ, ◌+◌, ◌*◌, ◌/◌, ◌%◌, ◌^◌, ◌<◌, ◌≤◌, Bool, true, false, cond, not, ◌&&◌, ◌||◌, eqb, leb, ◌⊎◌, Ok, Err, Result, sym, refl, ap, ◌∙◌, inl, inr, arith}
-use Rattle.std.proofs.lemmas.Bool.{and_parts, or_cases, eqb-true, eqb-false, leb-true, not-true, cases_Bool}
+use Rattle.std.proofs.Common.{◌≡◌, ℕ, ◌+◌, ◌*◌, ◌/◌, ◌%◌, ◌≤◌, Bool, true, false, cond, not, eqb, leb, ◌⊎◌, Ok, Err, Result, refl, inl, inr, arith}
+use Rattle.std.proofs.lemmas.Bool.{and_parts, or_cases, eqb-true, leb-true}
 use Rattle.fault.specs.declared.Fault.{Fault}
 use Rattle.fault.specs.declared.Reason.{Reason}
 use Rattle.fault.specs.declared.Reason.TheVariants.{Version, ClusterBits, GuestSize, NameTooLong, NotEmpty, NoRoom}
@@ -10,7 +10,7 @@ use Rattle.fault.specs.Outcomes.{and_then}
 use Rattle.format.specs.declared.numbers.Numbers.{Numbers}
 use Rattle.format.specs.Clusters.{cluster, per_table}
 use Rattle.format.specs.Header.{version_good, bits_good, size_good, needed}
-use Rattle.create.specs.Create.{asked, name_fits, room, create_judged}
+use Rattle.create.specs.Create.{asked, name_fits, create_judged}
 
 pub record Granted (n : Numbers) (len limit : ℕ) : Type 0 where
   pub version : version_good n ≡ true

@@ -4,7 +4,7 @@
 --   create_judged    whether it is refused
 --   created          the four clusters: header, refcount table, one block, L1 table
 --   create_outcome   the bytes of the store afterwards, or the fault
-use Rattle.std.specs.Prelude.{ℕ, ◌+◌, ◌*◌, ◌/◌, Bool, true, false, cond, ◌&&◌, List, [], ◌∷◌, length, Ok, Err, Result, ◌==◌, nat_le}
+use Rattle.std.specs.Prelude.{ℕ, ◌+◌, ◌*◌, ◌/◌, Bool, cond, ◌&&◌, List, [], ◌∷◌, Ok, Err, Result, ◌==◌, nat_le}
 use Rattle.fault.specs.declared.Fault.{Fault}
 use Rattle.fault.specs.declared.Layer.TheVariants.{Call, Store}
 use Rattle.fault.specs.declared.Reason.{Reason}

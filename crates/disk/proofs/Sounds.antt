@@ -1,5 +1,5 @@
 -- The readings of the disks are sound. Assumes nothing.
-use Rattle.std.proofs.Common.{◌≡◌, ℕ, ◌^◌, ◌≤◌, min, Bool, true, false, cond, ltb, List, length, IfOk, Ok, Err, Result, sym, subst, arith}
+use Rattle.std.proofs.Common.{◌≡◌, ℕ, ◌^◌, ◌≤◌, min, cond, ltb, List, length, IfOk, Ok, Err, Result, arith}
 use Rattle.std.proofs.lemmas.Bool.{cond-false, cond_both, le-ltb}
 use Rattle.fault.specs.declared.Fault.{Fault}
 use Rattle.fault.specs.declared.Layer.TheVariants.{Disk}
@@ -8,7 +8,7 @@ use Rattle.fault.specs.Faults.{fault}
 use Rattle.byte_lists.specs.Runs.{Octets, zeros}
 use Rattle.byte_lists.proofs.Runs.{length-zeros}
 use Rattle.byte_lists.proofs.Octets.{octets_zeros}
-use Rattle.disk.specs.Readings.{Reading, Sound, shown, past_end}
+use Rattle.disk.specs.Readings.{Sound, shown, past_end}
 use Rattle.disk.specs.Disks.{zeros_reading, raw_reading, rescued_reading, sector, sectors_of, spoilt}
 use Rattle.disk.proofs.Sectors.{length-sector, octets_sector}
 

@@ -5,7 +5,7 @@
 --   raw_reading       the sectors of a byte list
 --   spoilt            whether a list of sector numbers has a sector
 --   rescued_reading   the same, but spoiled sectors refuse
-use Rattle.std.specs.Prelude.{ℕ, ◌+◌, ◌*◌, ◌/◌, ◌^◌, min, Bool, true, false, cond, ◌||◌, List, [], ◌∷◌, length, Ok, Err, ◌==◌}
+use Rattle.std.specs.Prelude.{ℕ, ◌+◌, ◌*◌, ◌/◌, ◌^◌, min, Bool, false, cond, ◌||◌, List, [], ◌∷◌, length, Ok, Err, ◌==◌}
 use Rattle.fault.specs.declared.Layer.TheVariants.{Disk}
 use Rattle.fault.specs.declared.Reason.TheVariants.{Spoiled}
 use Rattle.fault.specs.Faults.{fault}

@@ -2,7 +2,7 @@
 --   Reading   a number of sectors, and the answer of each: 512 bytes or a fault
 --   shown     answers that end with the disk: past its end each sector refuses
 --   Sound     what every disk owes of its reading
-use Rattle.std.specs.Prelude.{◌≡◌, ℕ, ◌^◌, ◌≤◌, cond, List, length, IfOk, Ok, Err, Result, nat_lt}
+use Rattle.std.specs.Prelude.{◌≡◌, ℕ, ◌^◌, ◌≤◌, cond, List, length, IfOk, Err, Result, nat_lt}
 use Rattle.fault.specs.declared.Fault.{Fault}
 use Rattle.fault.specs.declared.Layer.TheVariants.{Disk}
 use Rattle.fault.specs.declared.Reason.TheVariants.{PastDisk}

@@ -6,7 +6,7 @@
 --   deeper   a fault that has passed one backing disk more
 --   shown    a fault as text: number, layer, place and depth
 --   same_reason, same_fault   whether two are one: by numbers, and by all parts
-use Rattle.std.specs.Prelude.{ℕ, ◌+◌, min, Bool, ◌&&◌, ◌==◌, List, [], ◌∷◌, ◌++◌, codes, decimal}
+use Rattle.std.specs.Prelude.{ℕ, ◌+◌, min, Bool, ◌&&◌, ◌==◌, List, ◌++◌, codes, decimal}
 use Rattle.std.proofs.Math.Utf8.{encode}
 use Rattle.fault.specs.declared.Layer.{Layer}
 use Rattle.fault.specs.declared.Layer.TheVariants.{Header, Tables, Disk, Store, Call}

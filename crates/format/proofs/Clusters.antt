@@ -1,6 +1,6 @@
 -- The cluster size lies between 512 and 2 MiB and is a multiple of 512. Assumes nothing.
-use Rattle.std.proofs.Common.{◌≡◌, ℕ, ◌+◌, ◌-◌, ◌*◌, ◌/◌, ◌%◌, ◌^◌, ◌<◌, ◌≤◌, min, max, sym, ap, ◌∙◌, subst, mul-pos, arith, pow_mono}
-use Rattle.std.proofs.lemmas.Nat.{pow-add, pow_below, one_shl}
+use Rattle.std.proofs.Common.{◌≡◌, ℕ, ◌+◌, ◌-◌, ◌*◌, ◌%◌, ◌^◌, ◌<◌, ◌≤◌, ap, ◌∙◌, mul-pos, arith, pow_mono}
+use Rattle.std.proofs.lemmas.Nat.{pow-add, one_shl}
 use Rattle.format.specs.Clusters.{cluster_of, held_bits}
 
 pub cluster_least : (b : ℕ) → 512 ≤ cluster_of b

@@ -1,5 +1,5 @@
 -- What is known of a header that was judged good: every row's test. Assumes nothing.
-use Rattle.std.proofs.Common.{◌≡◌, ℕ, ◌+◌, ◌*◌, ◌/◌, ◌%◌, ◌^◌, ◌<◌, ◌≤◌, Bool, true, false, cond, ◌&&◌, eqb, leb, List, length, Ok, Err, Result, sym, refl, ap, ◌∙◌, subst, arith}
+use Rattle.std.proofs.Common.{◌≡◌, ℕ, ◌/◌, ◌%◌, ◌^◌, ◌≤◌, Bool, true, false, eqb, leb, List, length, Ok, Result, sym, refl, subst}
 use Rattle.std.proofs.lemmas.Bool.{and_parts, leb-true, eqb-true}
 use Rattle.fault.specs.declared.Fault.{Fault}
 use Rattle.fault.specs.declared.Reason.{Reason}
@@ -8,7 +8,7 @@ use Rattle.fault.specs.Outcomes.{and_then}
 use Rattle.fault.proofs.Outcomes.{not_both, then_ok}
 use Rattle.format.specs.declared.numbers.Numbers.{Numbers}
 use Rattle.format.specs.Clusters.{cluster}
-use Rattle.format.specs.Header.{good, opens, fields, version_good, bits_good, length_good, header_good, size_good, needed, table_good, extent_good, records_good, letters_good, name_good, kind_judged, places_judged, judged, header_of, header}
+use Rattle.format.specs.Header.{good, opens, fields, version_good, bits_good, length_good, header_good, size_good, needed, table_good, extent_good, records_good, letters_good, name_good, kind_judged, places_judged, judged, header}
 
 -- one row was passed
 row : {Y : Type 0} (t : Bool) (why : Reason) (place : ℕ) (f : Unit {0} → Result Y Fault) (y : Y) → and_then (good t why place) f ≡ Ok y → (t ≡ true) × (f tt ≡ Ok y)

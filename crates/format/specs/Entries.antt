@@ -4,7 +4,7 @@
 --   placed       an offset is 0 without a copied flag, or a whole cluster of the store
 --   l1_entry     an L1 entry, or the fault at its place
 --   l2_entry     an L2 entry, or the fault at its place: compressed before bad
-use Rattle.std.specs.Prelude.{ℕ, ◌+◌, ◌*◌, ◌/◌, ◌%◌, ◌^◌, Bool, true, false, cond, not, ◌&&◌, ◌||◌, Ok, Err, Result, ◌==◌, nat_le}
+use Rattle.std.specs.Prelude.{ℕ, ◌+◌, ◌*◌, ◌/◌, ◌%◌, ◌^◌, Bool, false, cond, not, ◌&&◌, ◌||◌, Ok, Err, Result, ◌==◌, nat_le}
 use Rattle.fault.specs.declared.Fault.{Fault}
 use Rattle.fault.specs.declared.Layer.TheVariants.{Tables}
 use Rattle.fault.specs.declared.Reason.TheVariants.{BadEntry, Compressed}

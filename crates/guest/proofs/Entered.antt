@@ -1,12 +1,12 @@
 -- What is known of a guest cluster's entry that was judged good. Assumes nothing.
-use Rattle.std.proofs.Common.{◌≡◌, ℕ, Bool, true, false, cond, not, ◌&&◌, eqb, List, length, Ok, Err, sym, refl, ap, ◌∙◌, subst, inl, inr}
+use Rattle.std.proofs.Common.{◌≡◌, ℕ, true, ◌&&◌, eqb, List, length, Ok, sym, refl, ◌∙◌, subst, inl, inr}
 use Rattle.std.proofs.lemmas.Bool.{and_parts, cases_Bool, cond-true, cond-false}
 use Rattle.fault.specs.Outcomes.{and_then}
 use Rattle.fault.proofs.Outcomes.{then_ok, passed, not_refused}
 use Rattle.store.specs.Words.{word}
 use Rattle.format.specs.declared.numbers.Numbers.{Numbers}
 use Rattle.format.specs.declared.entries.Entry.{Entry}
-use Rattle.format.specs.Entries.{placed, l1_plain, l2_plain, compressed_in, offset_in, copied_in, zero_in, entry_of, l1_entry, l2_entry}
+use Rattle.format.specs.Entries.{placed, l2_plain, compressed_in, offset_in, copied_in, zero_in, entry_of, l1_entry, l2_entry}
 use Rattle.guest.specs.Shown.{l1_place, l2_place, l2_under, guest_entry, empty}
 
 abbrev pub Placed : Numbers → ℕ → Entry → Type 0

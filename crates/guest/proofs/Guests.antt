@@ -1,9 +1,9 @@
 -- Guest sectors lie in guest clusters. Assumes nothing.
-use Rattle.std.proofs.Common.{◌≡◌, ℕ, ◌+◌, ◌-◌, ◌*◌, ◌/◌, ◌%◌, ◌^◌, ◌<◌, ◌≤◌, cond, eqb, sym, refl, ap, ◌∙◌, subst, inl, inr, mul-le-mul_right, mul_assoc, div-add-mod', div-mul-le_self, mul-div_cancel, arith}
-use Rattle.std.proofs.lemmas.Nat.{le-div, pow_pos}
+use Rattle.std.proofs.Common.{◌≡◌, ℕ, ◌+◌, ◌-◌, ◌*◌, ◌/◌, ◌%◌, ◌^◌, ◌<◌, ◌≤◌, eqb, sym, ap, ◌∙◌, inl, inr, mul-le-mul_right, mul_assoc, div-add-mod', div-mul-le_self, mul-div_cancel, arith}
+use Rattle.std.proofs.lemmas.Nat.{le-div}
 use Rattle.std.proofs.lemmas.Bool.{cases_eq, cases_lt, cond-true, cond-false, eq-eqb, ne_eqb}
 use Rattle.format.specs.declared.numbers.Numbers.{Numbers}
-use Rattle.format.specs.Clusters.{cluster, cluster_of, held_bits, per_cluster, begun}
+use Rattle.format.specs.Clusters.{cluster, held_bits, per_cluster, begun}
 use Rattle.format.proofs.Clusters.{cluster-sectors, cluster_least}
 use Rattle.guest.specs.Shown.{guest_sectors, guest_clusters}
 

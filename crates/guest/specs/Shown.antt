@@ -8,7 +8,7 @@
 --   live_reading    the guest disk
 --   mount_sectors   how many sectors a mount has as a disk
 --   mount_reading   what a mount means as a disk
-use Rattle.std.specs.Prelude.{ℕ, ◌+◌, ◌-◌, ◌*◌, ◌/◌, ◌%◌, ◌^◌, min, Bool, true, false, cond, ◌||◌, List, length, Ok, Err, Result, ◌==◌, nat_le}
+use Rattle.std.specs.Prelude.{ℕ, ◌+◌, ◌*◌, ◌/◌, ◌%◌, ◌^◌, min, false, cond, ◌||◌, List, length, Ok, Err, Result, ◌==◌, nat_le}
 use Rattle.fault.specs.declared.Fault.{Fault}
 use Rattle.fault.specs.Faults.{deeper}
 use Rattle.fault.specs.Outcomes.{and_then}

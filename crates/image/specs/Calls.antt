@@ -2,7 +2,7 @@
 --   read_outcome   the 512 bytes of a live sector, or the fault
 --   peek_outcome   those of a snapshot's sector
 --   room_judged    a list has as many words as a call needs
-use Rattle.std.specs.Prelude.{ℕ, Bool, cond, ◌&&◌, List, Ok, Err, Result, ◌==◌, nat_le, nat_lt}
+use Rattle.std.specs.Prelude.{ℕ, cond, ◌&&◌, List, Ok, Err, Result, ◌==◌, nat_le, nat_lt}
 use Rattle.fault.specs.declared.Fault.{Fault}
 use Rattle.fault.specs.declared.Layer.TheVariants.{Call}
 use Rattle.fault.specs.declared.Reason.TheVariants.{Sectors, ListTooShort}

@@ -1,11 +1,11 @@
 -- What the words of a walked image add up to are the totals. Assumes nothing.
-use Rattle.std.proofs.Common.{◌≡◌, ℕ, ◌+◌, ◌-◌, ◌/◌, ◌%◌, ◌^◌, ◌<◌, ◌≤◌, min, Bool, eqb, List, length, get_or, sym, refl, ap, ◌∙◌, arith}
+use Rattle.std.proofs.Common.{◌≡◌, ℕ, ◌+◌, ◌/◌, ◌%◌, ◌^◌, ◌<◌, Bool, eqb, List, length, get_or, ap, ◌∙◌, arith}
 use Rattle.format.specs.declared.numbers.Numbers.{Numbers}
 use Rattle.tables.specs.Refcounts.{count}
 use Rattle.snapshot.specs.declared.records.Snapshot.{Snapshot}
 use Rattle.walk.specs.References.{references}
 use Rattle.tally.specs.Tally.{times, kind_from, twice}
-use Rattle.tally.specs.Words.{kind_in, mark_in, packed}
+use Rattle.tally.specs.Words.{kind_in, mark_in}
 use Rattle.tally.specs.Filling.{filled}
 use Rattle.tally.proofs.Marks.{word_kind, packed_low}
 use Rattle.tally.proofs.Filled.{filled_is, filled-twice}

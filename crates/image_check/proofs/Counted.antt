@@ -1,20 +1,17 @@
 -- Counts have two bytes, and those past the store's end stand in blocks. Assumes nothing.
-use Rattle.std.proofs.Common.{◌≡◌, ℕ, ◌+◌, ◌-◌, ◌*◌, ◌/◌, ◌%◌, ◌^◌, ◌<◌, ◌≤◌, min, Bool, true, false, cond, not, ◌&&◌, eqb, ltb, leb, List, length, Ok, Err, Result, sym, refl, ap, ◌∙◌, subst, inl, inr, div-add-mod', arith}
+use Rattle.std.proofs.Common.{◌≡◌, ℕ, ◌+◌, ◌*◌, ◌/◌, ◌%◌, ◌^◌, ◌<◌, ◌≤◌, Bool, true, false, cond, not, eqb, ltb, leb, List, length, Ok, Err, Result, sym, refl, ap, ◌∙◌, subst, inl, inr, div-add-mod', arith}
 use Rattle.std.proofs.lemmas.Nat.{mod_below, div-mul-add, mod-mul-add}
-use Rattle.std.proofs.lemmas.Bool.{cond-true, cond-false, cond_both, both_ways, and_left, lt-leb, cases_eq, cases_lt, cases_Bool, eq-eqb, ne_eqb, lt-ltb, le-ltb, le-leb, leb-true, eqb-true, and_parts, and_from, and_cases, and_right, not-false, not_from_true}
+use Rattle.std.proofs.lemmas.Bool.{cond-true, cond-false, cond_both, both_ways, and_left, lt-leb, cases_eq, cases_lt, eq-eqb, ne_eqb, lt-ltb, le-ltb, le-leb, leb-true, eqb-true, and_cases, and_right, not-false, not_from_true}
 use Rattle.fault.specs.declared.Fault.{Fault}
-use Rattle.fault.specs.Outcomes.{and_then, each}
-use Rattle.fault.proofs.Outcomes.{then_ok, then_is, passed, each_is}
+use Rattle.fault.specs.Outcomes.{and_then}
+use Rattle.fault.proofs.Outcomes.{then_ok, passed, each_is}
 use Rattle.byte_lists.specs.Runs.{run, Octets}
 use Rattle.byte_lists.specs.Numbers.{be}
 use Rattle.byte_lists.proofs.Runs.{length_run}
 use Rattle.byte_lists.proofs.Octets.{octets_run}
 use Rattle.byte_lists.proofs.Numbers.{be_below}
-use Rattle.store.specs.Stores.{load}
 use Rattle.store.specs.Words.{word, held}
-use Rattle.store.proofs.Outcomes.{loaded}
 use Rattle.format.specs.declared.numbers.Numbers.{Numbers}
-use Rattle.format.specs.Clusters.{cluster}
 use Rattle.format.proofs.Clusters.{cluster_least}
 use Rattle.tables.specs.Refcounts as refcounts
 use Rattle.tables.specs.Refcounts.{per_block, blocks, block_place, block_entry, count_in, count, value}

@@ -1,5 +1,5 @@
 -- What the words add up to, one after another. Assumes nothing.
-use Rattle.std.proofs.Common.{◌≡◌, ℕ, ◌+◌, ◌-◌, ◌/◌, ◌%◌, ◌^◌, ◌<◌, ◌≤◌, Bool, eqb, List, length, get_or, sym, ◌∙◌, arith}
+use Rattle.std.proofs.Common.{◌≡◌, ℕ, ◌+◌, ◌-◌, ◌/◌, ◌%◌, ◌^◌, ◌<◌, ◌≤◌, Bool, eqb, List, length, get_or, arith}
 use Rattle.format.specs.declared.numbers.Numbers.{Numbers}
 use Rattle.tables.specs.Refcounts.{count}
 use Rattle.tally.specs.Words.{kind_in, mark_in}

@@ -1,6 +1,6 @@
 -- All five totals are zero exactly where the image is lawful. Assumes nothing.
-use Rattle.std.proofs.Common.{◌≡◌, ℕ, ◌+◌, ◌-◌, ◌*◌, ◌/◌, ◌^◌, ◌<◌, ◌≤◌, min, Bool, true, false, cond, not, ◌&&◌, ◌||◌, eqb, ltb, leb, List, length, IfOk, Ok, Err, Result, sym, refl, ap, ◌∙◌, subst, inl, inr, arith, MatchResult}
-use Rattle.std.proofs.lemmas.Bool.{and_parts, and_from, and_left, and_right, and_cases, or_parts, or_from, cond-true, cond-false, cases_eq, cases_Bool, eqb-true, eq-eqb, ne_eqb, eqb-false, ltb-false, le-ltb, le-leb, lt-leb, leb-false, leb-true, not-false, not_from_true, not_from_false, both_ways}
+use Rattle.std.proofs.Common.{◌≡◌, ℕ, ◌+◌, ◌*◌, ◌/◌, ◌<◌, ◌≤◌, Bool, true, false, cond, not, ◌&&◌, eqb, leb, List, length, IfOk, Ok, Err, Result, sym, refl, ap, ◌∙◌, inl, inr, arith, MatchResult}
+use Rattle.std.proofs.lemmas.Bool.{and_parts, and_from, and_left, and_right, and_cases, or_parts, or_from, cond-true, cond-false, cases_eq, cases_Bool, eqb-true, eq-eqb, ne_eqb, eqb-false, ltb-false, le-ltb, le-leb, lt-leb, leb-false, leb-true, not-false, not_from_true, both_ways}
 use Rattle.fault.specs.declared.Fault.{Fault}
 use Rattle.fault.proofs.Outcomes.{then_ok, then_is, ok_same}
 use Rattle.byte_lists.specs.Runs.{Octets}
@@ -12,7 +12,7 @@ use Rattle.snapshot.specs.declared.records.Snapshot.{Snapshot}
 use Rattle.walk.specs.References.{l1_at, l2_at, entries_of, references}
 use Rattle.walk.specs.Walk.{blocks_judged, walk}
 use Rattle.tally.specs.Tally.{times, kind_from, twice}
-use Rattle.image_check.specs.Totals.{sum, one, clusters_of, held_times, leaks, lacks, repeats, leaked, leaked_past, short, mixed, repeated, wrong, wrong_in, l2_wrong, branch_wrong, flags}
+use Rattle.image_check.specs.Totals.{sum, one, clusters_of, held_times, leaks, lacks, repeats, leaked, short, mixed, repeated, wrong, wrong_in, l2_wrong, branch_wrong, flags}
 use Rattle.image.specs.Calls.{room_judged}
 use Rattle.image_check.specs.Outcome.{totals_of, check_outcome, found_clean}
 use Rattle.image_check.specs.Lawful.{Flag, Lawful}

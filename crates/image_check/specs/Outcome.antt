@@ -3,7 +3,7 @@
 --   Checked         the five totals, and the list of words after it
 --   check_outcome   that, or the fault; further words stay
 --   found_clean     whether all five totals are zero
-use Rattle.std.specs.Prelude.{ℕ, Bool, ◌&&◌, List, ◌++◌, length, drop, Ok, Err, Result, ◌==◌}
+use Rattle.std.specs.Prelude.{ℕ, Bool, ◌&&◌, List, ◌++◌, length, drop, Ok, Result, ◌==◌}
 use Rattle.fault.specs.declared.Fault.{Fault}
 use Rattle.fault.specs.Outcomes.{and_then}
 use Rattle.format.specs.declared.numbers.Numbers.{Numbers}

@@ -7,7 +7,7 @@
 --   mixed         clusters of several kinds
 --   repeated      clusters of the kinds 1 to 6 with two references or more, or reached more than once from one L1 table
 --   flags         entries in and under the live L1 table whose copied flag does not say whether the count is one
-use Rattle.std.specs.Prelude.{ℕ, zero, suc, ◌+◌, ◌-◌, ◌*◌, ◌/◌, ◌^◌, min, Bool, true, false, cond, not, ◌&&◌, ◌||◌, List, length, Ok, Err, Result, ◌==◌, nat_le, nat_lt, slice_index}
+use Rattle.std.specs.Prelude.{ℕ, zero, suc, ◌+◌, ◌-◌, ◌*◌, ◌/◌, ◌^◌, min, Bool, cond, not, ◌&&◌, ◌||◌, List, length, Ok, Err, Result, ◌==◌, nat_le, nat_lt, slice_index}
 use Rattle.fault.specs.declared.Fault.{Fault}
 use Rattle.store.specs.Words.{word, held}
 use Rattle.format.specs.declared.numbers.Numbers.{Numbers}
@@ -15,7 +15,7 @@ use Rattle.format.specs.Clusters.{cluster, per_table}
 use Rattle.format.specs.declared.entries.Entry.{Entry}
 use Rattle.tables.specs.Refcounts.{per_block, blocks, count, value}
 use Rattle.snapshot.specs.declared.records.Snapshot.{Snapshot}
-use Rattle.walk.specs.References.{Ref, l1_at, l2_at, block_at, entries_of, references}
+use Rattle.walk.specs.References.{Ref, l1_at, l2_at, block_at, entries_of}
 use Rattle.tally.specs.Tally.{times, kind_from, twice}
 
 abbrev pub sum : (ℕ → ℕ) → ℕ → ℕ → ℕ

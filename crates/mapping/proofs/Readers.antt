@@ -1,9 +1,8 @@
 -- What a reader gets by the words of a map is what read and peek answer. Assumes nothing.
-use Rattle.std.proofs.Common.{◌≡◌, ℕ, ◌+◌, ◌-◌, ◌/◌, ◌^◌, ◌<◌, ◌≤◌, Bool, true, false, cond, ◌&&◌, eqb, ltb, leb, List, [], ◌∷◌, ◌++◌, map, length, get_or, drop, Ok, Err, Result, sym, refl, ap, ◌∙◌, subst, inl, inr, zero-add, arith, length-append, length-drop}
-use Rattle.std.specs.List.{range_with_len}
+use Rattle.std.proofs.Common.{◌≡◌, ℕ, ◌/◌, ◌^◌, ◌<◌, ◌≤◌, true, false, cond, ◌&&◌, eqb, ltb, leb, List, ◌++◌, length, get_or, drop, Ok, Err, Result, sym, refl, ap, ◌∙◌, inl, inr, zero-add, arith, length-append}
 use Rattle.std.proofs.lemmas.List.FromFn.{length-map-range_with_len, get_or-map-range_with_len}
 use Rattle.std.proofs.lemmas.List.{get_or_append_left}
-use Rattle.std.proofs.lemmas.Bool.{and_parts, and_from, cases_Bool, cond-true, le-leb, leb-true, ltb-true, eqb-false}
+use Rattle.std.proofs.lemmas.Bool.{and_parts, and_from, cases_Bool, cond-true, le-leb, ltb-true, eqb-false}
 use Rattle.fault.specs.declared.Fault.{Fault}
 use Rattle.fault.specs.Outcomes.{and_then, each}
 use Rattle.fault.proofs.Outcomes.{not_both, then_ok, then_is, passed, same_after, each_is}
@@ -11,14 +10,13 @@ use Rattle.disk.specs.Readings.{Reading}
 use Rattle.format.specs.declared.numbers.Numbers.{Numbers}
 use Rattle.format.specs.Clusters.{cluster, per_cluster}
 use Rattle.format.proofs.Goods.{header_facts, clusters_most}
-use Rattle.format.specs.declared.entries.Entry.{Entry}
 use Rattle.snapshot.specs.All.{id_judged, table}
 use Rattle.guest.specs.Shown.{guest_entry, guest_clusters, guest_sectors, entry_shows, shows}
 use Rattle.guest.proofs.Guests.{cluster-within}
 use Rattle.guest.proofs.Entered.{entry-placed}
 use Rattle.image.specs.Honest.{Honest}
-use Rattle.image.specs.Calls.{sector_judged, read_outcome, peek_outcome, room_judged}
-use Rattle.mapping.specs.Maps.{word_in, word_of, words_of, map_id_judged, table_for, map_outcome}
+use Rattle.image.specs.Calls.{read_outcome, peek_outcome, room_judged}
+use Rattle.mapping.specs.Maps.{word_in, words_of, map_id_judged, table_for, map_outcome}
 use Rattle.mapping.specs.Copies.{word_shows, copy_outcome, shown_outcome}
 use Rattle.mapping.proofs.Words.{word_leads}
 

@@ -3,7 +3,7 @@
 --   words_of        the words of the first k guest clusters
 --   table_for       the L1 table that an id names: none the live one
 --   map_outcome     the list after map, or the fault; further words stay
-use Rattle.std.specs.Prelude.{ℕ, ◌+◌, ◌-◌, ◌/◌, ◌^◌, min, cond, List, [], ◌∷◌, ◌++◌, map, length, drop, Ok, Err, Result, ◌==◌, nat_le}
+use Rattle.std.specs.Prelude.{ℕ, ◌+◌, ◌-◌, ◌/◌, ◌^◌, min, cond, List, ◌++◌, map, length, drop, Ok, Err, Result, ◌==◌, nat_le}
 use Rattle.std.specs.List.{range_with_len}
 use Rattle.fault.specs.declared.Fault.{Fault}
 use Rattle.fault.specs.declared.Layer.TheVariants.{Call}

@@ -1,5 +1,5 @@
 -- Worked lines, by computing the definitions. Assumes nothing.
-use Rattle.std.proofs.Common.{◌≡◌, ℕ, List, Some, None, codes, refl}
+use Rattle.std.proofs.Common.{◌≡◌, Some, None, codes, refl}
 use lib.Utf8.{encode}
 use Rattle.std.specs.Fmt.{digits}
 use Rattle.byte_lists.specs.Numbers.{be_bytes}
@@ -11,13 +11,13 @@ use Rattle.script.specs.States.{State, empty, spoken}
 -- a session that has a store with two bytes in use
 two : State
 unfolding spoken begins
-two = (spoken empty (codes "store_flat 4 0aFF")).1
+two = (spoken empty (codes "store-flat 4 0aFF")).1
 
 blank_line : (spoken empty (codes "  # a comment")).0 ≡ None
 unfolding spoken begins
 blank_line = refl
 
-first_line : (spoken empty (codes "disk_sectors")).0 ≡ Some (codes "ok 0 | 0 cbf29ce484222325")
+first_line : (spoken empty (codes "disk-sectors")).0 ≡ Some (codes "ok 0 | 0 cbf29ce484222325")
 unfolding spoken begins digits digest be_bytes
 first_line = refl
 
@@ -25,10 +25,10 @@ no_store : (spoken empty (codes "store-length")).0 ≡ Some (codes "error no sto
 unfolding spoken begins digits digest be_bytes
 no_store = refl
 
-last_byte : (spoken two (codes "store_read 1 1")).0 ≡ Some (codes "ok ff | 2 0853c907b50711c6")
+last_byte : (spoken two (codes "store-read 1 1")).0 ≡ Some (codes "ok ff | 2 0853c907b50711c6")
 unfolding two spoken begins digits digest be_bytes run
 last_byte = refl
 
-past_end : (spoken two (codes "store_read 1 2")).0 ≡ Some (codes "fault 24 S 1 0 | 2 0853c907b50711c6")
+past_end : (spoken two (codes "store-read 1 2")).0 ≡ Some (codes "fault 24 S 1 0 | 2 0853c907b50711c6")
 unfolding two spoken begins digits digest be_bytes run encode
 past_end = refl

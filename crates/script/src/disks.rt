@@ -38,13 +38,13 @@ impl Base {
 
 impl Session {
     pub(crate) fn disk_sectors(&self) -> Outcome
-        ensures stepped { Stepped (state self.now) ask.disk-sectors result }
+        ensures stepped { Stepped (state self.now) ask.disk_sectors result }
     {
         unchanged(Answer::Number(self.disk.lend().sectors()))
     }
 
     pub(crate) fn disk_read(&self, sector: u64) -> Result<Outcome, AllocError>
-        ensures stepped { IfOk result (Stepped (state self.now) (ask.disk-read sector)) }
+        ensures stepped { IfOk result (Stepped (state self.now) (ask.disk_read sector)) }
     {
         let mut buffer = [BLANK; 512];
         let r = self.disk.lend().read_sector(sector, &mut buffer);

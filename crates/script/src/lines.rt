@@ -1,5 +1,5 @@
 // Lines: from a line of text to its record line.
-ghost use Rattle.std.specs.Prelude.{◌≡◌, ◌^◌, ◌<◌, length, take, IfOk, string_bytes};
+ghost use Rattle.std.specs.Prelude.{◌≡◌, ◌^◌, ◌<◌, length, take, IfOk, IfNone, string_bytes};
 ghost use Rattle.answer.specs.Records.{told, record_line};
 ghost use Rattle.script.specs.States.{in_use};
 ghost use Rattle.script.specs.Sessions.{kept, state, changed, Spoken};
@@ -62,6 +62,7 @@ impl Session {
     // The record line of a call; none for a line without one. Without memory for it, nothing has happened.
     pub fn line(&mut self, text: &str) -> Result<Option<String>, AllocError>
         ensures spoken { Spoken (state self.old) text.now result (state self.new) }
+        ensures skipped { IfOk result (λ o. IfNone o (self.new ≡ self.old)) }
     {
         let Some(call) = call_of(self.heap, text.as_bytes())? else {
             return Ok(None);

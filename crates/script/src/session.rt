@@ -1,5 +1,5 @@
 // A session: the store, the mount and the disk that the lines speak of.
-ghost use Rattle.std.specs.Prelude.{◌≡◌, IfOk};
+ghost use Rattle.std.specs.Prelude.{◌≡◌, IfOk, vec_len};
 ghost use Rattle.std.specs.Option.{option_map};
 ghost use Rattle.script.specs.States.{empty};
 ghost use Rattle.script.specs.Sessions.{lists_kept, state};
@@ -38,6 +38,7 @@ impl Session {
     // No store, no mount, and a disk of no sectors.
     pub fn new(heap: Global) -> Session
         ensures empty { state result ≡ empty }
+        ensures bare { vec_len result.content ≡ 0 }
     {
         Session {
             heap,

@@ -49,7 +49,7 @@ impl Session {
     }
 
     pub(crate) fn store_limit(&self) -> Result<Outcome, AllocError>
-        ensures stepped { IfOk result (Stepped (state self.now) ask.store-limit) }
+        ensures stepped { IfOk result (Stepped (state self.now) ask.store_limit) }
     {
         let Some(mut lists) = self.lists()? else {
             return Ok(mistake(NO_STORE));
@@ -58,7 +58,7 @@ impl Session {
     }
 
     pub(crate) fn store_read(&self, first: u64, count: u64) -> Result<Outcome, AllocError>
-        ensures stepped { IfOk result (Stepped (state self.now) (ask.store-read first count)) }
+        ensures stepped { IfOk result (Stepped (state self.now) (ask.store_read first count)) }
     {
         let Some(mut lists) = self.lists()? else {
             return Ok(mistake(NO_STORE));
@@ -68,7 +68,7 @@ impl Session {
     }
 
     pub(crate) fn store_replace(&self, first: u64, new: &[u8]) -> Result<Outcome, AllocError>
-        ensures stepped { IfOk result (Stepped (state self.now) (ask.store-replace first new.now)) }
+        ensures stepped { IfOk result (Stepped (state self.now) (ask.store_replace first new.now)) }
     {
         let Some(mut lists) = self.lists()? else {
             return Ok(mistake(NO_STORE));
@@ -79,7 +79,7 @@ impl Session {
     }
 
     pub(crate) fn store_grow(&self, length: u64) -> Result<Outcome, AllocError>
-        ensures stepped { IfOk result (Stepped (state self.now) (ask.store-grow length)) }
+        ensures stepped { IfOk result (Stepped (state self.now) (ask.store_grow length)) }
     {
         let Some(mut lists) = self.lists()? else {
             return Ok(mistake(NO_STORE));

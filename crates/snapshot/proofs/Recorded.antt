@@ -1,5 +1,5 @@
 -- What is known of a record's sizes once they were judged good. Assumes nothing.
-use Rattle.std.proofs.Common.{◌≡◌, ℕ, ◌+◌, ◌≤◌, Bool, true, false, ◌&&◌, ◌||◌, eqb, leb, List, Ok, Err, Result, sym, refl, ap, ◌∙◌, inl, inr, arith}
+use Rattle.std.proofs.Common.{◌≡◌, ℕ, ◌≤◌, Bool, true, false, ◌&&◌, eqb, leb, List, Ok, Err, Result, sym, refl, ap, ◌∙◌, inl, inr, arith}
 use Rattle.std.proofs.lemmas.Bool.{and_parts, or_cases, leb-true, eqb-true}
 use Rattle.format.specs.declared.numbers.Numbers.{Numbers}
 use Rattle.snapshot.specs.declared.records.Head.{Head}
@@ -8,7 +8,7 @@ use Rattle.fault.specs.declared.Fault.{Fault}
 use Rattle.fault.specs.Outcomes.{and_then, Tells}
 use Rattle.store.specs.Stores.{load}
 use Rattle.snapshot.specs.declared.records.Snapshot.{Snapshot}
-use Rattle.snapshot.specs.Records.{extra_good, sizes_good, head_good, body, size, rest_good, record_good, head_in, rest_in, record_place, record_in, snapshot}
+use Rattle.snapshot.specs.Records.{extra_good, sizes_good, head_good, size, rest_good, record_good, head_in, rest_in, record_place, record_in, snapshot}
 
 -- extra data that is there has its first 16 bytes
 pub extra_some : (n : Numbers) (h : Head) → extra_good n h ≡ true → (h.extra ≡ 0 → ⊥) → 16 ≤ h.extra

@@ -1,8 +1,8 @@
 -- The words of an image that was walked are its tally, and the marks tell which clusters a table reaches twice. Assumes nothing.
-use Rattle.std.proofs.Common.{◌≡◌, ℕ, zero, suc, ◌+◌, ◌-◌, ◌*◌, ◌/◌, ◌^◌, ◌<◌, ◌≤◌, min, Bool, true, false, cond, ◌||◌, eqb, leb, ◌⊎◌, List, [], ◌∷◌, ◌++◌, map, length, get_or, Ok, Err, Result, sym, refl, ap, ◌∙◌, subst, inl, inr, append_assoc, add-zero, arith}
+use Rattle.std.proofs.Common.{◌≡◌, ℕ, zero, suc, ◌+◌, ◌*◌, ◌/◌, ◌^◌, ◌<◌, min, Bool, true, false, cond, ◌||◌, eqb, leb, ◌⊎◌, List, [], ◌∷◌, ◌++◌, map, length, get_or, Ok, Err, Result, sym, refl, ap, ◌∙◌, subst, inl, inr, append_assoc, add-zero, arith}
 use Rattle.std.proofs.lemmas.List.FromFn.{fill_by_all}
 use Rattle.std.proofs.lemmas.List.{get_or-map, length-map}
-use Rattle.std.proofs.lemmas.Bool.{cond-true, cond-false, cond_both, cases_eq, cases_lt, eq-eqb, ne_eqb, le-leb, lt-leb, or_left, or_right, or_from}
+use Rattle.std.proofs.lemmas.Bool.{cond-true, cond_both, le-leb}
 use Rattle.fault.specs.declared.Fault.{Fault}
 use Rattle.format.specs.declared.numbers.Numbers.{Numbers}
 use Rattle.format.specs.Clusters.{cluster}
@@ -13,9 +13,9 @@ use Rattle.walk.specs.declared.kinds.Kind.{Kind}
 use Rattle.walk.specs.declared.kinds.Kind.TheVariants.{Header, RefcountTable, LiveL1, SnapshotL1, L2, Data}
 use Rattle.walk.specs.References.{Ref, kind_number, named, gather, entry_refs, l2_at, l2_refs, branch, branch_refs, l1_at, tree_refs, table_refs, block_at, named_block, block_refs, record_refs, l1_refs, snapshot_refs, references, entries_of}
 use Rattle.tally.specs.declared.filling.Pass.TheVariants.{Note, Forget}
-use Rattle.tally.specs.Tally.{times, merged, kind_from, tally, tally_word, any_twice, twice}
-use Rattle.tally.specs.Words.{reached, packed, mark_in, unmarked}
-use Rattle.tally.specs.Filling.{touched, all_touched, walked, all_walked, fixed_refs, filled}
+use Rattle.tally.specs.Tally.{times, kind_from, tally, tally_word, any_twice, twice}
+use Rattle.tally.specs.Words.{packed, mark_in, unmarked}
+use Rattle.tally.specs.Filling.{all_touched, walked, all_walked, fixed_refs, filled}
 use Rattle.tally.proofs.Marks.{Fits, plain, word_mark, unmarked_is, mark_most}
 use Rattle.tally.proofs.Notes.{at_host, length-touched, all_at, noted_all, forgot_all, mark_from, back, taken_back, Deep, Flat, mark_deep, mark_flat, times-append, kind_append, deep_append, flat_append}
 

@@ -1,5 +1,5 @@
 -- What a cluster's word is after a list of references. Assumes nothing.
-use Rattle.std.proofs.Common.{◌≡◌, ℕ, zero, suc, ◌+◌, ◌-◌, ◌<◌, ◌≤◌, min, Bool, true, false, cond, eqb, leb, ◌⊎◌, List, [], ◌∷◌, ◌++◌, length, get_or, set, sym, refl, ap, ◌∙◌, subst, inl, inr, add-zero, arith, length-set}
+use Rattle.std.proofs.Common.{◌≡◌, ℕ, zero, suc, ◌+◌, ◌<◌, ◌≤◌, min, Bool, true, false, cond, eqb, leb, List, [], ◌∷◌, ◌++◌, length, get_or, set, sym, refl, ap, ◌∙◌, subst, inl, inr, add-zero, arith, length-set}
 use Rattle.std.proofs.lemmas.List.{get_or-set_same, get_or-set_other}
 use Rattle.std.proofs.lemmas.Bool.{cond-true, cond-false, cases_eq, eq-eqb, ne_eqb, le-leb, lt-leb}
 use Rattle.walk.specs.declared.kinds.Kind.{Kind}
@@ -10,7 +10,7 @@ use Rattle.tally.specs.declared.filling.Pass.TheVariants.{Note, Forget}
 use Rattle.tally.specs.Tally.{times, merged, kind_from}
 use Rattle.tally.specs.Words.{reached, packed, noted, unseen}
 use Rattle.tally.specs.Filling.{word_after, touched, all_touched}
-use Rattle.tally.proofs.Marks.{Fits, Named, noted_is, unseen_is, merged_fits, unseen_fits, mark_most}
+use Rattle.tally.proofs.Marks.{Fits, Named, noted_is, unseen_is, merged_fits, unseen_fits}
 
 -- one cluster's word after a list of references
 abbrev pub at_host : Pass → ℕ → List Ref → ℕ → ℕ

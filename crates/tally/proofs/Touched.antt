@@ -1,5 +1,5 @@
 -- References noted one after another, in parts. Assumes nothing.
-use Rattle.std.proofs.Common.{◌≡◌, ℕ, suc, ◌+◌, ◌-◌, ◌<◌, ◌≤◌, List, [], ◌∷◌, ◌++◌, sym, refl, ap, ◌∙◌, arith}
+use Rattle.std.proofs.Common.{◌≡◌, ℕ, suc, ◌+◌, ◌-◌, ◌<◌, ◌≤◌, List, [], ◌∷◌, ◌++◌, refl, ap, ◌∙◌, arith}
 use Rattle.walk.specs.References.{Ref, gather}
 use Rattle.tally.specs.declared.filling.Pass.{Pass}
 use Rattle.tally.specs.Filling.{touched, all_touched}

@@ -1,3 +1,2 @@
 mod Parting
-mod Turns
 pub mod ReadBack

@@ -7,7 +7,7 @@
 --   or_mistake  a call, or the mistake of its verb
 --   asked       what words ask, by their verb
 --   heard       what a line asks, by its words; nothing if it has none
-use Rattle.std.specs.Prelude.{ℕ, List, [], ◌∷◌, Some, None, vec_items, codes, Option}
+use Rattle.std.specs.Prelude.{ℕ, List, [], Some, None, vec_items, codes, Option}
 use Rattle.std.specs.Option.{option_map}
 use Rattle.text.specs.Words.{nth}
 use Rattle.text.specs.Values.{opt_then, number, numbers, spelled, hex_bytes}

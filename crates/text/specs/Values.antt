@@ -16,7 +16,7 @@
 --   may_end      whether a word may end where this comes next
 --   spelled      the bytes that a word spells: two digits for each, or each as itself unless a '%' comes before two digits
 --   hex_bytes    the bytes that a word of digits spells
-use Rattle.std.specs.Prelude.{ℕ, zero, suc, ◌+◌, ◌-◌, ◌*◌, ◌^◌, Bool, true, false, cond, ◌&&◌, ◌||◌, List, [], ◌∷◌, ◌++◌, Some, None, Option, ◌==◌, nat_le, nat_lt}
+use Rattle.std.specs.Prelude.{ℕ, ◌+◌, ◌-◌, ◌*◌, ◌^◌, Bool, true, false, cond, ◌&&◌, List, [], ◌∷◌, ◌++◌, Some, None, Option, ◌==◌, nat_le, nat_lt}
 use Rattle.std.specs.Option.{unwrap_or, option_to_list}
 use Rattle.text.specs.declared.values.Form.{Form}
 use Rattle.text.specs.declared.values.Form.TheVariants.{Hexadecimal, Plain}

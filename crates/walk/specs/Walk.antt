@@ -4,7 +4,7 @@
 --   tree_judged     the entries of an L1 table, each with its L2 table after it
 --   trees_judged    the L1 tables of snapshots, one after another
 --   walk            the snapshots of an image whose walk is good, or the first fault
-use Rattle.std.specs.Prelude.{ℕ, ◌*◌, cond, List, [], ◌∷◌, Ok, Err, Result, ◌==◌}
+use Rattle.std.specs.Prelude.{ℕ, ◌*◌, cond, List, [], ◌∷◌, Ok, Result, ◌==◌}
 use Rattle.fault.specs.declared.Fault.{Fault}
 use Rattle.fault.specs.Outcomes.{and_then, each}
 use Rattle.format.specs.declared.numbers.Numbers.{Numbers}

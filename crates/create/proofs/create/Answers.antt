@@ -1,9 +1,9 @@
-use Rattle.std.proofs.Common.{◌≡◌, ℕ, ◌^◌, ◌<◌, length, Ok, sym, refl, ap, ◌∙◌, arith}
+use Rattle.std.proofs.Common.{◌≡◌, ◌^◌, ◌<◌, length, Ok, sym, refl, ap, ◌∙◌, arith}
 use Rattle.fault.specs.Outcomes.{and_then}
 use Rattle.format.specs.Header.{header, needed}
 use Rattle.format.proofs.Clusters.{cluster_most}
 use Rattle.create.specs.Create.{wanted, create_judged, created}
-use Rattle.create.proofs.Wishes.{Granted, granted, needed_few}
+use Rattle.create.proofs.Wishes.{granted, needed_few}
 use Rattle.create.proofs.Good.{created-good}
 use Rattle.create.proofs.create.Goals as goal
 

@@ -1,4 +1,4 @@
-use Rattle.std.proofs.Common.{◌≡◌, ℕ, ◌*◌, length, sym, ap, ◌∙◌}
+use Rattle.std.proofs.Common.{◌≡◌, ◌*◌, ap, ◌∙◌}
 use Rattle.format.specs.Clusters.{cluster}
 use Rattle.store.specs.Calls.{after}
 use Rattle.store.specs.Stores.{stored, grown}

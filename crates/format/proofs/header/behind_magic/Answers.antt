@@ -1,6 +1,5 @@
-use Rattle.std.proofs.Common.{◌≡◌, eqb, get_or, sym, arith}
+use Rattle.std.proofs.Common.{sym, arith}
 use Rattle.std.proofs.lemmas.List.{take_rest}
-use Rattle.std.proofs.lemmas.Bool.{eq-eqb, le-leb}
 use Rattle.format.proofs.Headers.{opens_from}
 use Rattle.format.proofs.header.behind_magic.Goals as goal
 

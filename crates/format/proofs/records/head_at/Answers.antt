@@ -1,5 +1,4 @@
-use Rattle.std.proofs.Common.{◌≡◌, true, sym, ap, ◌∙◌, rules}
-use Rattle.format.specs.Records.{head_good}
+use Rattle.std.proofs.Common.{sym, ◌∙◌, rules}
 use Rattle.format.proofs.Recorded.{record_passed, head_extra, size_most}
 use Rattle.format.proofs.records.head_at.Goals as goal
 

@@ -1,4 +1,4 @@
-use Rattle.std.proofs.Common.{◌≡◌, length, sym, ap, ◌∙◌}
+use Rattle.std.proofs.Common.{sym, ap, ◌∙◌}
 use Rattle.fault.specs.Outcomes.{and_then}
 use Rattle.store.specs.Stores.{load}
 use Rattle.format.specs.Records.{record_good, rest_good}

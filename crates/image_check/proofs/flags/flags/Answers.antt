@@ -1,6 +1,6 @@
-use Rattle.std.proofs.Common.{◌≡◌, ℕ, ◌+◌, ◌-◌, ◌*◌, ◌<◌, ◌≤◌, sym, ap, ◌∙◌, arith}
+use Rattle.std.proofs.Common.{ℕ, ◌<◌, ◌≤◌, arith}
 use Rattle.walk.specs.References.{l1_at, entries_of}
-use Rattle.image_check.specs.Totals.{sum, branch_wrong}
+use Rattle.image_check.specs.Totals.{branch_wrong}
 use Rattle.image_check.proofs.Sums.{sum_more, sum_none}
 use Rattle.image_check.proofs.flags.flags.Goals as goal
 

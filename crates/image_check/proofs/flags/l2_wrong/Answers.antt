@@ -1,4 +1,4 @@
-use Rattle.std.proofs.Common.{◌≡◌, ℕ, ◌+◌, ◌-◌, ◌≤◌, sym, ap, ◌∙◌, arith}
+use Rattle.std.proofs.Common.{◌≡◌, ℕ, ◌+◌, ◌-◌, ap, ◌∙◌, arith}
 use Rattle.walk.specs.References.{l2_at}
 use Rattle.image_check.specs.Totals.{sum, wrong_in}
 use Rattle.image_check.proofs.Sums.{sum_more, sum_none}

@@ -1,7 +1,7 @@
-use Rattle.std.proofs.Common.{◌≡◌, ℕ, ◌+◌, ◌-◌, ◌*◌, ◌^◌, ◌<◌, ◌≤◌, sym, ap, ◌∙◌, arith}
+use Rattle.std.proofs.Common.{ℕ, ◌<◌, ◌≤◌, arith}
 use Rattle.tables.specs.Refcounts.{blocks}
 use Rattle.walk.specs.References.{block_at}
-use Rattle.image_check.specs.Totals.{sum, past_in}
+use Rattle.image_check.specs.Totals.{past_in}
 use Rattle.image_check.proofs.Sums.{sum_more, sum_none}
 use Rattle.image_check.proofs.past.past_end.Goals as goal
 

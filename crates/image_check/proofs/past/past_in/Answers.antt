@@ -1,6 +1,6 @@
-use Rattle.std.proofs.Common.{◌≡◌, ℕ, ◌+◌, ◌-◌, ◌<◌, ◌≤◌, sym, ap, ◌∙◌, arith}
+use Rattle.std.proofs.Common.{ℕ, ◌<◌, ◌≤◌, ap, ◌∙◌, arith}
 use Rattle.tables.specs.Refcounts.{per_block}
-use Rattle.image_check.specs.Totals.{sum, one, past}
+use Rattle.image_check.specs.Totals.{one, past}
 use Rattle.image_check.proofs.Sums.{sum_more, sum_none}
 use Rattle.image_check.proofs.past.past_in.Goals as goal
 

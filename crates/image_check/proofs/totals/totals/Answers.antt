@@ -1,4 +1,4 @@
-use Rattle.std.proofs.Common.{◌≡◌, ℕ, ◌%◌, ◌^◌, ◌≤◌, eqb, ltb, List, get_or, ap, ◌∙◌, arith}
+use Rattle.std.proofs.Common.{◌≡◌, ℕ, ◌%◌, ◌^◌, eqb, ltb, get_or, ap, ◌∙◌, arith}
 use Rattle.tables.specs.Refcounts.{count}
 use Rattle.image_check.specs.Totals.{one}
 use Rattle.image_check.proofs.Found.{left_more, left_none, leaking, lacking, mixing, repeating}

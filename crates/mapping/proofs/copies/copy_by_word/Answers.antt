@@ -1,7 +1,7 @@
-use Rattle.std.proofs.Common.{◌≡◌, ◌/◌, ◌<◌, ◌≤◌, ◌&&◌, eqb, ltb, leb, length, sym, ap, subst, arith}
+use Rattle.std.proofs.Common.{◌/◌, ◌<◌, ◌≤◌, ◌&&◌, eqb, ltb, leb, length, sym, subst, arith}
 use Rattle.std.proofs.lemmas.Bool.{and_parts, leb-true, ltb-true}
 use Rattle.fault.proofs.Outcomes.{passed}
-use Rattle.guest.specs.Shown.{guest_sectors, guest_clusters}
+use Rattle.guest.specs.Shown.{guest_sectors}
 use Rattle.guest.proofs.Guests.{cluster-within}
 use Rattle.mapping.proofs.copies.copy_by_word.Goals as goal
 

@@ -1,4 +1,4 @@
-use Rattle.std.proofs.Common.{◌≡◌, ℕ, ◌<◌, length, get_or}
+use Rattle.std.proofs.Common.{◌≡◌, ℕ, ◌<◌, get_or}
 use Rattle.guest.specs.Shown.{guest_entry}
 use Rattle.mapping.specs.Maps.{word_in}
 use Rattle.mapping.proofs.maps.fill_words.Given as goal

@@ -1,4 +1,4 @@
-use Rattle.std.proofs.Common.{◌≡◌, ℕ, ◌+◌, List, take, sym, ap, ◌∙◌, arith}
+use Rattle.std.proofs.Common.{sym, ap, ◌∙◌, arith}
 use Rattle.lent.specs.Lists.{space_limit}
 use Rattle.script.specs.States.{in_use}
 use Rattle.script.specs.Sessions.{kept}

@@ -1,7 +1,6 @@
-use Rattle.std.proofs.Common.{◌≡◌, ◌-◌, min, length, take, ap, ◌∙◌, arith}
+use Rattle.std.proofs.Common.{◌≡◌, ◌-◌, length, take, ap, ◌∙◌, arith}
 use Rattle.std.specs.Str.{bytes_eq}
 use Rattle.std.proofs.lemmas.Slice.Eq.{slice_eq-Decides}
-use Rattle.snapshot.specs.Records.{id_of}
 use Rattle.snapshot.proofs.Found.{tested, cut_at}
 use Rattle.snapshot.proofs.all.same_id.Goals as goal
 use Rattle.std.proofs.lemmas.Bool.Decides.{Decides-eqb}

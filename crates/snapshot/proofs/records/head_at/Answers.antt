@@ -1,7 +1,7 @@
-use Rattle.std.proofs.Common.{◌≡◌, ◌+◌, ◌≤◌, true, sym, ap, ◌∙◌, arith, rules}
+use Rattle.std.proofs.Common.{◌+◌, ◌≤◌, sym, ◌∙◌, arith, rules}
 use Rattle.std.proofs.lemmas.Bool.{leb-true}
 use Rattle.format.specs.Clusters.{cluster}
-use Rattle.snapshot.specs.Records.{head_good, size as size_of}
+use Rattle.snapshot.specs.Records.{size as size_of}
 use Rattle.snapshot.proofs.Recorded.{record_passed, head_extra, size_most, id_most}
 use Rattle.snapshot.proofs.records.head_at.Goals as goal
 

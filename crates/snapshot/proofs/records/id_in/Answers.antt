@@ -1,5 +1,4 @@
-use Rattle.std.proofs.Common.{◌≡◌, ◌-◌, length, take, drop, ap, ◌∙◌, arith}
-use borrow.Rule.Slice.PartMut.{put_mid}
+use Rattle.std.proofs.Common.{◌≡◌, length, take, drop, ap, ◌∙◌, arith}
 use Rattle.byte_lists.specs.Runs.{run, grow, zeros}
 use Rattle.byte_lists.proofs.Runs.{length_run}
 use Rattle.byte_lists.proofs.Lent.{front_grown}

@@ -1,4 +1,4 @@
-use Rattle.std.proofs.Common.{◌+◌, Ok, ap, ◌∙◌, arith}
+use Rattle.std.proofs.Common.{Ok, ap, ◌∙◌, arith}
 use Rattle.std.proofs.lemmas.Result.{err_from_is_err_and}
 use Rattle.format.proofs.Clusters.{cluster_most}
 use Rattle.snapshot.specs.Records.{size}

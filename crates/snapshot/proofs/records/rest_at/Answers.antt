@@ -1,8 +1,6 @@
-use Rattle.std.proofs.Common.{◌≡◌, length, Ok, Err, sym, ap, ◌∙◌}
-use Rattle.std.proofs.lemmas.Result.{MatchResult-weaker}
-use Rattle.fault.specs.Outcomes.{and_then}
+use Rattle.std.proofs.Common.{sym, ap, ◌∙◌}
 use Rattle.store.specs.Stores.{load}
-use Rattle.snapshot.specs.Records.{record_good, rest_good, rest_in}
+use Rattle.snapshot.specs.Records.{record_good}
 use Rattle.snapshot.proofs.Recorded.{rest_told}
 use Rattle.snapshot.proofs.records.rest_at.Goals as goal
 

@@ -1,4 +1,4 @@
-use Rattle.std.proofs.Common.{◌≡◌, length, drop}
+use Rattle.std.proofs.Common.{◌≡◌, drop}
 use Rattle.store.proofs.Agreement.{Midway}
 use Rattle.store.proofs.calls.agree.Given as goal
 

@@ -1,4 +1,4 @@
-use Rattle.std.proofs.Common.{◌≡◌, ℕ, length, Ok, sym, ap, ◌∙◌}
+use Rattle.std.proofs.Common.{◌≡◌, length, Ok, sym, ap, ◌∙◌}
 use Rattle.fault.specs.Outcomes.{and_then}
 use Rattle.byte_lists.specs.Numbers.{be}
 use Rattle.byte_lists.proofs.Numbers.{be_eight}

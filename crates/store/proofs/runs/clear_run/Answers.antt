@@ -1,4 +1,4 @@
-use Rattle.std.proofs.Common.{◌≡◌, ℕ, ◌+◌, ◌-◌, length, take, drop, replicate, sym, ap, ◌∙◌, arith, length-drop, length-take}
+use Rattle.std.proofs.Common.{◌≡◌, ◌+◌, ◌-◌, length, take, drop, ap, ◌∙◌, arith, length-drop, length-take}
 use Rattle.byte_lists.specs.Runs.{put, zeros}
 use Rattle.byte_lists.proofs.Lent.{put_mid-is_put}
 use Rattle.byte_lists.proofs.Runs.{length-zeros}

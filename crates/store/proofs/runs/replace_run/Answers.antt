@@ -1,4 +1,4 @@
-use Rattle.std.proofs.Common.{◌≡◌, ◌+◌, ◌-◌, length, sym, ap, ◌∙◌, arith}
+use Rattle.std.proofs.Common.{◌≡◌, ◌+◌, ◌-◌, length, ap, ◌∙◌, arith}
 use Rattle.byte_lists.specs.Runs.{put}
 use Rattle.byte_lists.proofs.Lent.{put_mid-is_put}
 use Rattle.store.proofs.runs.replace_run.Goals as goal

@@ -1,4 +1,4 @@
-use Rattle.std.proofs.Common.{◌≡◌, ◌++◌, sym, ap, ◌∙◌}
+use Rattle.std.proofs.Common.{sym, ap, ◌∙◌}
 use Rattle.walk.specs.declared.kinds.Kind.TheVariants.{LiveL1}
 use Rattle.walk.specs.References.{table_refs, block_refs, record_refs}
 use Rattle.tally.specs.declared.filling.Pass.TheVariants.{Note}

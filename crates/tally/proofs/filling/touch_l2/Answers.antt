@@ -1,4 +1,4 @@
-use Rattle.std.proofs.Common.{◌≡◌, ℕ, ◌+◌, ◌-◌, List, sym, ap, ◌∙◌, arith}
+use Rattle.std.proofs.Common.{ℕ, ◌+◌, ◌-◌, List, sym, ap, ◌∙◌, arith}
 use Rattle.walk.specs.References.{Ref, gather, entry_refs, l2_at}
 use Rattle.tally.specs.Filling.{all_touched}
 use Rattle.tally.proofs.Touched.{gather_more, gather_none}

@@ -1,4 +1,4 @@
-use Rattle.std.proofs.Common.{◌≡◌, ℕ, ◌+◌, ◌-◌, List, [], ◌∷◌, sym, ap, ◌∙◌}
+use Rattle.std.proofs.Common.{ℕ, ◌+◌, ◌-◌, List, [], ◌∷◌, sym, ap, ◌∙◌}
 use Rattle.walk.specs.declared.kinds.Kind.TheVariants.{RefcountTable}
 use Rattle.walk.specs.References.{Ref, gather}
 use Rattle.tally.specs.declared.filling.Pass.TheVariants.{Note}

@@ -1,5 +1,5 @@
-use Rattle.std.proofs.Common.{◌≡◌, ℕ, ◌+◌, ◌-◌, ◌<◌, ◌≤◌, List, sym, ap, ◌∙◌, arith}
-use Rattle.walk.specs.References.{Ref, gather, branch_refs, tree_refs, entries_of}
+use Rattle.std.proofs.Common.{ℕ, ◌+◌, ◌-◌, ◌<◌, ◌≤◌, List, sym, ap, ◌∙◌, arith}
+use Rattle.walk.specs.References.{Ref, gather, branch_refs, entries_of}
 use Rattle.tally.specs.Filling.{all_touched}
 use Rattle.tally.proofs.Touched.{gather_more, gather_none}
 use Rattle.tally.proofs.filling.touch_tree.Goals as goal

@@ -1,4 +1,4 @@
-use Rattle.std.proofs.Common.{◌≡◌, ◌<◌, ltb, sym, ◌∙◌, arith}
+use Rattle.std.proofs.Common.{◌<◌, ltb, sym, ◌∙◌, arith}
 use Rattle.std.proofs.lemmas.Bool.{cond-true, lt-ltb}
 use Rattle.guest.specs.Shown.{guest_clusters}
 use Rattle.walk.proofs.places.judge_walked.Goals as goal

@@ -1,4 +1,4 @@
-use Rattle.std.proofs.Common.{◌^◌, ◌≤◌, sym, subst}
+use Rattle.std.proofs.Common.{◌^◌, ◌≤◌, subst}
 use Rattle.disk.proofs.Sounds.{sound_raw}
 use Rattle.disk.proofs.raw.RawDiskDisk.sectors.Goals as goal
 

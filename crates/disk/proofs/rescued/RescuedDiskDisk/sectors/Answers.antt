@@ -1,4 +1,4 @@
-use Rattle.std.proofs.Common.{◌^◌, ◌≤◌, sym, subst}
+use Rattle.std.proofs.Common.{◌^◌, ◌≤◌, subst}
 use Rattle.disk.proofs.Sounds.{sound_rescued}
 use Rattle.disk.proofs.rescued.RescuedDiskDisk.sectors.Goals as goal
 

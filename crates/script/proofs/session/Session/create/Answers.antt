@@ -1,10 +1,10 @@
-use Rattle.std.proofs.Common.{◌≡◌, ℕ, List, length, Result, sym, refl, ap, ◌∙◌}
+use Rattle.std.proofs.Common.{ℕ, List, length, Result, sym, refl, ap, ◌∙◌}
 use Rattle.std.specs.Option.{option_map}
 use Rattle.fault.specs.declared.Fault.{Fault}
 use Rattle.create.specs.Create.{wanted, create_outcome}
 use Rattle.lent.specs.Lent.{any_bytes, any_limit}
 use Rattle.text.specs.Calls as ask
-use Rattle.script.specs.States.{Kept, creation}
+use Rattle.script.specs.States.{creation}
 use Rattle.script.specs.Sessions.{state, lists_kept}
 use Rattle.script.proofs.Steps.{ap_four, refill}
 use Rattle.script.proofs.session.Session.create.Goals as goal

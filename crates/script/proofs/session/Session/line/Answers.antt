@@ -6,6 +6,6 @@ pub returns : goal.returns
 unfolding spoken
 returns c = search rules
 
-pub returns-in-default : goal.returns-in-default
+pub returns-in_default : goal.returns-in_default
 unfolding spoken
-returns-in-default c = search rules
+returns-in_default c = search rules

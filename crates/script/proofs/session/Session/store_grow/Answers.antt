@@ -1,9 +1,8 @@
-use Rattle.std.proofs.Common.{◌≡◌, sym, refl, ap, ◌∙◌}
+use Rattle.std.proofs.Common.{sym, refl, ap, ◌∙◌}
 use Rattle.std.specs.Option.{option_map}
 use Rattle.store.specs.Stores.{grown}
 use Rattle.lent.specs.Lent.{any_bytes, any_limit}
 use Rattle.text.specs.Calls as ask
-use Rattle.script.specs.States.{Kept}
 use Rattle.script.specs.Sessions.{state, lists_kept}
 use Rattle.script.proofs.Steps.{refill}
 use Rattle.script.proofs.session.Session.store_grow.Goals as goal

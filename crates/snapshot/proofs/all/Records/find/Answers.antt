@@ -1,4 +1,4 @@
-use Rattle.std.proofs.Common.{◌≡◌, ◌<◌, length, sym, ap, ◌∙◌, subst}
+use Rattle.std.proofs.Common.{◌<◌, length, sym, ap, ◌∙◌, subst}
 use Rattle.snapshot.specs.All.{position}
 use Rattle.snapshot.proofs.Found.{found_here, found_on, found_none}
 use Rattle.snapshot.proofs.all.Records.find.Goals as goal

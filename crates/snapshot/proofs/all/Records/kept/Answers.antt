@@ -1,4 +1,4 @@
-use Rattle.std.proofs.Common.{◌≡◌, ◌-◌, ◌≤◌, length, take, ap, ◌∙◌, arith, length-take}
+use Rattle.std.proofs.Common.{◌≡◌, length, arith, length-take}
 use Rattle.snapshot.proofs.Found.{cut_at}
 use Rattle.snapshot.proofs.all.Records.kept.Goals as goal
 

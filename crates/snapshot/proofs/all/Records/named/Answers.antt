@@ -1,4 +1,4 @@
-use Rattle.std.proofs.Common.{◌≡◌, get_or, Ok, ap, ◌∙◌}
+use Rattle.std.proofs.Common.{get_or, Ok, ap, ◌∙◌}
 use Rattle.snapshot.specs.All.{kept, chosen, no_snapshot}
 use Rattle.snapshot.proofs.all.Records.named.Goals as goal
 

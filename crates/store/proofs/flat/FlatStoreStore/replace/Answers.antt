@@ -1,4 +1,4 @@
-use Rattle.std.proofs.Common.{◌+◌, length, take, sym, ap, ◌∙◌, rules}
+use Rattle.std.proofs.Common.{◌+◌, length, take, sym, ap, ◌∙◌}
 use Rattle.store.specs.Flat.{flat_bytes}
 use Rattle.byte_lists.proofs.Runs.{take_put, length-put}
 use Rattle.store.proofs.Outcomes.{stores, front_within, passed}

@@ -1,4 +1,4 @@
-use Rattle.std.proofs.Common.{◌≡◌, ℕ, ◌+◌, ◌-◌, ◌≤◌, ◌++◌, length, take, sym, refl, ap, ◌∙◌, arith, length-append}
+use Rattle.std.proofs.Common.{◌≡◌, ◌-◌, ◌≤◌, ◌++◌, length, take, sym, ap, ◌∙◌, arith, length-append}
 use Rattle.byte_lists.specs.Runs.{put, grow, zeros}
 use Rattle.byte_lists.proofs.Runs.{take-length, take-put-zeros, length-put, length-zeros}
 use Rattle.store.specs.Split.{joined, split_bytes, split_limit}

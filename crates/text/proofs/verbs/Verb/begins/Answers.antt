@@ -1,4 +1,4 @@
-use Rattle.std.proofs.Common.{◌≡◌, ℕ, List, Some, sym, ap, ◌∙◌}
+use Rattle.std.proofs.Common.{◌≡◌, Some, ap, ◌∙◌}
 use Rattle.std.proofs.lemmas.Slice.Eq.{slice_eq-Decides, bytes_eq-Decides}
 use Rattle.std.proofs.lemmas.Bool.Decides.{same_from_decides, Decides-eqb}
 use Rattle.std.specs.Str.{bytes_eq}
@@ -12,5 +12,5 @@ returns-in-Some c =
     let w = c.in-Some.first.now in
     let name = c.args.name.now in
     let same : c.eq.result ≡ bytes_eq w name = same_from_decides c.eq.result (bytes_eq w name) (slice_eq-Decides Decides-eqb w name c.eq.result c.eq.ensures) (bytes_eq-Decides w name) in
-    let found : Some w ≡ nth 0 (words (usage c.args.self)) = c.in-Some.ensures.value ∙ ap (λ l. nth 0 (words l)) (c.as-bytes.ensures.value ∙ c.usage.ensures.value) in
+    let found : Some w ≡ nth 0 (words (usage c.args.self)) = c.in-Some.ensures.value ∙ ap (λ l. nth 0 (words l)) (c.as_bytes.ensures.value ∙ c.usage.ensures.value) in
     record { value = same ∙ ap (λ o. is_word o name) found }

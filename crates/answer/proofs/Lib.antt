@@ -1,2 +1,0 @@
-mod Hexes
-mod Listed
