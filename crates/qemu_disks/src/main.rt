@@ -1,18 +1,18 @@
 // Images that qemu-img made: `stdout` has what qemu-img says of them, and each disk is held to what it read from it.
 #![tactic(auto)]
 
-use anyhow::anyhow;
-use image_check::check;
 use disk::Disk;
 use fault::Fault;
 use format::Numbers;
 use guest::{guest_clusters, sectors_of};
 use image::Mount;
+use image_check::check;
 use layers::{How, Opened, Stop, backing_name, open, read_front, refused};
 use mapping::{copy_out, map};
 use snapshot::judge_records;
 use std::alloc::Global;
 use std::fs;
+use std::process::ExitCode;
 use store::Store;
 
 const PLAIN: How = How {
@@ -196,12 +196,12 @@ fn run(rt: &HostRuntime) -> Result<(), Stop> {
     Ok(())
 }
 
-fn main(rt: HostRuntime) -> anyhow::Result<()> {
+fn main(rt: HostRuntime) -> ExitCode {
     match run(&rt) {
-        Ok(()) => Ok(()),
+        Ok(()) => ExitCode::SUCCESS,
         Err(stop) => {
-            eprintln!(rt; "qemu_disks: {stop}")?;
-            Err(anyhow!("stopped"))
+            let _ = eprintln!(rt; "qemu_disks: {stop}");
+            ExitCode::FAILURE
         }
     }
 }
