@@ -4,7 +4,7 @@
 ghost use Rattle.std.specs.Prelude.{◌≡◌, ◌+◌, ◌*◌, ◌^◌, ◌<◌, ◌≤◌, cond, length, Ok, OnOk};
 ghost use Rattle.fault.specs.Outcomes.{Gives};
 ghost use Rattle.format.specs.Clusters.{cluster};
-ghost use Rattle.format.specs.Header.{header as header_of, needed};
+ghost use Rattle.format.specs.Header.{header as header_in, needed};
 ghost use Rattle.create.specs.Laid.{laid, laid_field};
 ghost use Rattle.create.specs.Create.{wanted as wanted_of, header_length, name_place, asked, name_fits, room, create_judged, shared_fields, late_fields, header_fields, table_fields, created, create_outcome};
 
@@ -276,7 +276,7 @@ pub fn create<S: Store>(
 ) -> Result<(), Fault>
     ensures outcome { Gives result (create_outcome (wanted_of version bits size (length name.now)) name.now (length (S.Store.bytes s.old)) (S.Store.limit s.old)) (S.Store.bytes s.old) (S.Store.bytes s.new) }
     ensures limit { S.Store.limit s.new ≡ S.Store.limit s.old }
-    ensures judged { OnOk result (header_of (S.Store.bytes s.new) ≡ Ok (wanted_of version bits size (length name.now))) }
+    ensures judged { OnOk result (header_in (S.Store.bytes s.new) ≡ Ok (wanted_of version bits size (length name.now))) }
 {
     let probe = Numbers {
         version,

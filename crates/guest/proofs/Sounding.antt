@@ -16,7 +16,7 @@ use Rattle.format.specs.declared.numbers.Numbers.{Numbers}
 use Rattle.format.specs.declared.entries.Entry.{Entry}
 use Rattle.format.specs.Clusters.{per_cluster}
 use Rattle.store.specs.Words.{held}
-use Rattle.guest.specs.Shown.{guest_entry, guest_sectors, mount_sectors, passed_up, under, entry_shows, shows, table_reading, mount_reading}
+use Rattle.guest.specs.Shown.{guest_entry, guest_sectors, mount_sectors, passed_up, under, entry_shows, shows, table_reading, live_reading, mount_reading}
 
 whole_zeros : Whole (Ok (zeros 512))
 whole_zeros = (length-zeros 512, octets_zeros 512)
@@ -51,8 +51,11 @@ module _ (n : Numbers) (bs : List ℕ) (backing : Reading) (o : Octets bs) (soun
   pub sound_table : (table : ℕ) → Sound (table_reading n bs backing table)
   sound_table table = sound_shown (guest_sectors n) (shows n bs backing table) (omega arith) (λ s. whole_shows table s)
 
+  pub sound_live : Sound (live_reading n bs backing)
+  sound_live = sound_table n.l1
+
 pub sound_mount : (header : Result Numbers Fault) (bs : List ℕ) (backing : Reading) → Octets bs → Sound backing → Sound (mount_reading header bs backing)
-sound_mount (Ok n) bs backing o sound = sound_table n bs backing o sound n.l1
+sound_mount (Ok n) bs backing o sound = sound_live n bs backing o sound
 sound_mount (Err f) bs backing o sound = sound_shown (2 ^ 55) (λ s. Err f) (omega arith) (λ s. tt)
 
 -- the same reading with the header judged at each sector, and the number of sectors named

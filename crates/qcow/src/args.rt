@@ -26,10 +26,23 @@ fn sort_of(word: &str, valued: &[&str], switches: &[&str]) -> Sort {
     if has(switches, word) {
         return Sort::Switch;
     }
-    if word.len() > 1 && word.starts_with('-') {
+    if word.starts_with("--") {
+        return Sort::Unknown;
+    }
+    if word.len() > 1 && word.starts_with('-') && has_short(valued) {
         return Sort::Unknown;
     }
     Sort::Plain
+}
+
+// A task without options of one dash takes a word with one for a file's name.
+fn has_short(names: &[&str]) -> bool {
+    for name in names {
+        if !name.starts_with("--") {
+            return true;
+        }
+    }
+    false
 }
 
 impl Arguments {

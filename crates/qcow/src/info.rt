@@ -1,7 +1,8 @@
 // `qcow info`: what a file's header says, or the fault that it has.
 use crate::args::{Arguments, message};
+use fault::Fault;
 use format::{Numbers, judge};
-use layers::{Stop, backing_name, failed, read_front, refused};
+use layers::{Stop, backing_name, failed, read_front};
 use listing::shown;
 use std::alloc::{AllocError, Global};
 
@@ -40,6 +41,12 @@ fn print(rt: &HostRuntime, n: &Numbers, front: &[u8]) -> Result<(), Stop> {
     Ok(())
 }
 
+fn refuse(rt: &HostRuntime, path: &str, f: Fault) -> Result<(), Stop> {
+    let words = f.reason.words();
+    println!(rt; "refused {f}: {words}")?;
+    Err(message(rt.alloc(), path, "has no good header")?)
+}
+
 pub(crate) fn run(rt: &HostRuntime, given: Vec<String>) -> Result<(), Stop> {
     let heap = rt.alloc();
     let args = Arguments::new(heap, given, NO_OPTIONS, NO_OPTIONS)?;
@@ -53,6 +60,6 @@ pub(crate) fn run(rt: &HostRuntime, given: Vec<String>) -> Result<(), Stop> {
     };
     match judge(front.shown(), front.filled()) {
         Ok(numbers) => print(rt, &numbers, front.shown()),
-        Err(f) => Err(refused(heap, words, f)),
+        Err(f) => refuse(rt, path.as_str(), f),
     }
 }

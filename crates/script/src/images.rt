@@ -1,6 +1,6 @@
 // Calls that make an image, mount one, or ask a mount.
 ghost use Rattle.std.specs.Prelude.{◌≡◌, IfOk};
-ghost use Rattle.format.specs.Header.{header as header_of};
+ghost use Rattle.format.specs.Header.{header as header_in};
 ghost use Rattle.image.specs.Calls.{read_outcome, peek_outcome};
 ghost use Rattle.answer.specs.Records.{told};
 ghost use Rattle.lent.specs.Lent.{any_bytes, any_limit, base_reading};
@@ -33,7 +33,7 @@ fn held(n: u64) -> u32
 
 // What a new mount of the store judges; the backing disk plays no part in that.
 fn judged<S: Store + Drop>(s: S) -> Result<Numbers, Fault>
-    ensures value { result ≡ header_of (S.Store.bytes s) }
+    ensures value { result ≡ header_in (S.Store.bytes s) }
 {
     Mount::new(s, ZerosDisk::new(0)).numbers()
 }

@@ -1,7 +1,7 @@
 -- The calls that lines make, as plain data. Assumes nothing.
 --   Asked       a call with its arguments, or a line that is none, with words that say so
 --   meant       what the code's call means
---   number_at   the number that the word at a place spells, and so for bytes and lists; with -or a word that may be left out
+--   number_at   the number that the word at a place spells, and so for bytes and lists; with _or a word that may be left out
 --   or_else     what a word spells, or something else if it is left out
 --   parsed      the call that a verb and the words of its line make, if they make one
 --   or_mistake  a call, or the mistake of its verb
