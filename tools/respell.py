@@ -2,9 +2,9 @@
 """Brings the repository's own definitions and lemmas to the spelling of today's Rattle.
 
 Functions, fields, constructors and aliases are in snake case; a lemma keeps a dash only between the names of two
-functions. Two crates that have a kit library's name get
-another. Run once, at the top of the repository, after the kit's port.py. It goes by text: whole words of .antt files
-and of the ghost text of .rt files. A name that would fall together with another is left and printed.
+functions. Two crates that have a kit library's name get another. Run once, at the top of the repository, after the
+kit's port.py. It goes by text: whole words of .antt files and of the ghost text of .rt files. So it turns words in
+strings too, which are mended by hand afterwards. A name that would fall together with another is left and printed.
 """
 import os
 import re
@@ -155,8 +155,6 @@ def main(root):
             for line in t.split("\n"):
                 ghost = deep > 0 or re.search(r"^\s*(ghost |requires|ensures)", line) or re.search(r"(ghost |requires|ensures)[ *\w]*\{", line)
                 if ghost:
-                    start = len("\n".join(new)) + (1 if new else 0)
-                    base = t
                     line2 = WORD.sub(lambda m: own[m.group(0)] if m.group(0) in own and (not line[: m.start()].endswith(".") or m.group(0) in fields) else m.group(0), line)
                     opens = line.count("{") - line.count("}")
                     deep = max(0, deep + opens) if not re.search(r"\{\s*$", line) or deep > 0 or re.search(r"(requires|ensures|ghost)[^{]*\{\s*$", line) else deep

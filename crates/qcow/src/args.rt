@@ -29,7 +29,8 @@ fn sort_of(word: &str, valued: &[&str], switches: &[&str]) -> Sort {
     if word.starts_with("--") {
         return Sort::Unknown;
     }
-    if word.len() > 1 && word.starts_with('-') && has_short(valued) {
+    let short = has_short(valued) || has_short(switches);
+    if short && word.len() > 1 && word.starts_with('-') {
         return Sort::Unknown;
     }
     Sort::Plain
