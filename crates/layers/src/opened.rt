@@ -1,4 +1,8 @@
 // An image in memory over the chain of files that it lies on.
+ghost use Rattle.std.specs.Prelude.{◌≡◌, IfOk, string_bytes};
+ghost use Rattle.disk.specs.Disks.{rescued_reading};
+ghost use Rattle.layers.specs.Refusals.{Says, refusal};
+
 use crate::links::{Link, links_of};
 use crate::reads::{failed, read_whole};
 use crate::stop::Stop;
@@ -31,7 +35,10 @@ pub struct Under {
 impl Under {
     // The chain as a disk. A raw file without a list is a rescued disk without a spoiled sector; where there is no raw
     // file no image asks for one.
-    pub fn disk(&self) -> Chain<'_, MemoryStore, RescuedDisk<'_>> {
+    pub fn disk(&self) -> Chain<'_, MemoryStore, RescuedDisk<'_>>
+        ensures layers { result.layers.now ≡ self.now.layers.items }
+        ensures base { rescued_reading result.base.list.now result.base.spoiled.now ≡ rescued_reading self.now.base.items self.now.spoiled.items }
+    {
         Chain {
             layers: self.layers.as_slice(),
             base: RescuedDisk::new(self.base.as_slice(), self.spoiled.as_slice()),
@@ -48,14 +55,18 @@ pub struct Opened {
 }
 
 // The error of a call that was refused: it names the image, and for a fault of a deeper file that file as well.
-pub fn refused(heap: Global, paths: &[String], f: Fault) -> Stop {
+pub fn refused(heap: Global, paths: &[String], f: Fault) -> Stop
+    ensures value { Says result (refusal paths.now f) }
+{
     match words_of(heap, paths, f) {
         Ok(text) => Stop::Said(text),
         Err(_) => Stop::Memory,
     }
 }
 
-fn words_of(heap: Global, paths: &[String], f: Fault) -> Result<String, AllocError> {
+fn words_of(heap: Global, paths: &[String], f: Fault) -> Result<String, AllocError>
+    ensures value { IfOk result (λ s. string_bytes s ≡ refusal paths.now f) }
+{
     let words = f.reason.words();
     let [top, rest @ ..] = paths else {
         return format!(in heap; "refused {f}: {words}");

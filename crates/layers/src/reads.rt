@@ -1,4 +1,8 @@
 // Reading files: their front with the header, or all of them.
+ghost use Rattle.std.specs.Prelude.{◌≡◌};
+ghost use Rattle.format.specs.Header.{filled_length};
+ghost use Rattle.layers.specs.Fronts.{opens, part};
+
 use crate::stop::Stop;
 use format::filled_length;
 use std::alloc::Global;
@@ -19,7 +23,9 @@ const FRONT: usize = 1 << 21;
 
 impl Front {
     // Whether the file opens as an image does.
-    pub fn is_image(&self) -> bool {
+    pub fn is_image(&self) -> bool
+        ensures value { result ≡ opens self.now.bytes.items }
+    {
         match self.bytes.as_slice() {
             [0x51, 0x46, 0x49, 0xfb, ..] => true,
             _ => false,
@@ -27,12 +33,16 @@ impl Front {
     }
 
     // The file's length as an image, a part cluster at the end filled up.
-    pub fn filled(&self) -> u64 {
+    pub fn filled(&self) -> u64
+        ensures value { result ≡ filled_length self.now.bytes.items self.now.length }
+    {
         filled_length(self.bytes.as_slice(), self.length)
     }
 
     // What there is of the first bytes, a part cluster filled up.
-    pub fn shown(&self) -> &[u8] {
+    pub fn shown(&self) -> &[u8]
+        ensures value { result.now ≡ part self.now.bytes.items self.now.length self.now.read }
+    {
         let all = self.bytes.as_slice();
         let filled = self.filled().min(all.len() as u64) as usize;
         let end = filled.max(self.read).min(all.len());
