@@ -1,20 +1,48 @@
 // Bytes as text: names with their unprintable letters escaped, and lines of hexadecimal.
+ghost use Rattle.std.specs.Prelude.{◌≡◌, ◌<◌, ◌++◌, IfOk, OnOk, string_bytes};
+ghost use Rattle.std.specs.Char.{digit_char};
+ghost use Rattle.listing.specs.Lines.{plain, escape, escaped, octet};
+
 use std::alloc::{AllocError, Global};
 
-fn is_plain(b: u8) -> bool {
+fn is_plain(b: u8) -> bool
+    ensures value { result ≡ plain b }
+{
     b >= 0x20 && b < 0x7f
 }
 
+fn digit(d: u8) -> char
+    requires { d < 16 }
+    ensures value { result ≡ digit_char d }
+{
+    char::from(if d < 10 { b'0' + d } else { b'a' - 10 + d })
+}
+
+// A byte in two hexadecimal digits.
+fn push_octet(text: &mut String, b: u8) -> Result<(), AllocError>
+    ensures bytes { OnOk result (string_bytes text.new ≡ string_bytes text.old ++ octet b) }
+{
+    text.push(digit(b / 16))?;
+    text.push(digit(b % 16))
+}
+
+fn push_escape(text: &mut String, b: u8) -> Result<(), AllocError>
+    ensures bytes { OnOk result (string_bytes text.new ≡ string_bytes text.old ++ escape b) }
+{
+    if is_plain(b) && b != b'\\' {
+        return text.push(char::from(b));
+    }
+    text.push_str("\\x")?;
+    push_octet(text, b)
+}
+
 // A name as text: printable letters as they are, others and the backslash as \xNN.
-pub fn shown(heap: Global, name: &[u8]) -> Result<String, AllocError> {
+pub fn shown(heap: Global, name: &[u8]) -> Result<String, AllocError>
+    ensures value { IfOk result (λ s. string_bytes s ≡ escaped name.now) }
+{
     let mut text = String::new(heap);
     for b in name {
-        if is_plain(*b) && *b != b'\\' {
-            text.push(char::from(*b))?;
-        } else {
-            let escaped = format!(in heap; "\\x{b:02x}")?;
-            text.push_str(escaped.as_str())?;
-        }
+        push_escape(&mut text, *b)?;
     }
     Ok(text)
 }
