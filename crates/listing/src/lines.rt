@@ -1,43 +1,87 @@
 // Bytes as text: names with their unprintable letters escaped, and lines of hexadecimal.
+ghost use Rattle.std.specs.Prelude.{◌≡◌, ◌<◌, ◌++◌, IfOk, OnOk, string_bytes, map, codes};
+ghost use Rattle.std.specs.Char.{digit_char};
+ghost use Rattle.listing.specs.Lines.{plain, escape, escaped, octet, dotted, spaced, place, line};
+
 use std::alloc::{AllocError, Global};
 
-fn is_plain(b: u8) -> bool {
+fn is_plain(b: u8) -> bool
+    ensures value { result ≡ plain b }
+{
     b >= 0x20 && b < 0x7f
 }
 
+fn digit(d: u8) -> char
+    requires { d < 16 }
+    ensures value { result ≡ digit_char d }
+{
+    char::from(if d < 10 { b'0' + d } else { b'a' - 10 + d })
+}
+
+// A byte in two hexadecimal digits.
+fn push_octet(text: &mut String, b: u8) -> Result<(), AllocError>
+    ensures bytes { OnOk result (string_bytes text.new ≡ string_bytes text.old ++ octet b) }
+{
+    text.push(digit(b / 16))?;
+    text.push(digit(b % 16))
+}
+
+fn push_escape(text: &mut String, b: u8) -> Result<(), AllocError>
+    ensures bytes { OnOk result (string_bytes text.new ≡ string_bytes text.old ++ escape b) }
+{
+    if is_plain(b) && b != b'\\' {
+        return text.push(char::from(b));
+    }
+    text.push_str("\\x")?;
+    push_octet(text, b)
+}
+
 // A name as text: printable letters as they are, others and the backslash as \xNN.
-pub fn shown(heap: Global, name: &[u8]) -> Result<String, AllocError> {
+pub fn shown(heap: Global, name: &[u8]) -> Result<String, AllocError>
+    ensures value { IfOk result (λ s. string_bytes s ≡ escaped name.now) }
+{
     let mut text = String::new(heap);
     for b in name {
-        if is_plain(*b) && *b != b'\\' {
-            text.push(char::from(*b))?;
-        } else {
-            let escaped = format!(in heap; "\\x{b:02x}")?;
-            text.push_str(escaped.as_str())?;
-        }
+        push_escape(&mut text, *b)?;
     }
     Ok(text)
 }
 
 // The bytes as letters, with a dot for what is not printable.
-fn letters(heap: Global, bytes: &[u8]) -> Result<String, AllocError> {
-    let mut text = String::new(heap);
+fn push_letters(text: &mut String, bytes: &[u8]) -> Result<(), AllocError>
+    ensures bytes { OnOk result (string_bytes text.new ≡ string_bytes text.old ++ map dotted bytes.now) }
+{
     for b in bytes {
         text.push(if is_plain(*b) { char::from(*b) } else { '.' })?;
     }
-    Ok(text)
+    Ok(())
+}
+
+// The bytes in digits, two and two.
+fn push_pairs(text: &mut String, bytes: &[u8]) -> Result<(), AllocError>
+    ensures bytes { OnOk result (string_bytes text.new ≡ string_bytes text.old ++ spaced 0 bytes.now) }
+{
+    for (i, b) in bytes.iter().enumerate() {
+        push_octet(text, *b)?;
+        text.push_str(if i % 2 == 1 { " " } else { "" })?;
+    }
+    Ok(())
+}
+
+fn place(heap: Global, at: u64) -> Result<String, AllocError>
+    ensures value { IfOk result (λ s. string_bytes s ≡ place at ++ codes ": ") }
+{
+    format!(in heap; "{at:08x}: ")
 }
 
 // A line as xxd prints it: where the bytes lie, the bytes in pairs, and their letters.
-pub fn hex_line(heap: Global, at: u64, bytes: &[u8]) -> Result<String, AllocError> {
-    let mut text = format!(in heap; "{at:08x}: ")?;
-    for (i, b) in bytes.iter().enumerate() {
-        let gap = if i % 2 == 1 { " " } else { "" };
-        let byte = format!(in heap; "{b:02x}{gap}")?;
-        text.push_str(byte.as_str())?;
-    }
+pub fn hex_line(heap: Global, at: u64, bytes: &[u8]) -> Result<String, AllocError>
+    ensures value { IfOk result (λ s. string_bytes s ≡ line at bytes.now) }
+{
+    let mut text = place(heap, at)?;
+    push_pairs(&mut text, bytes)?;
     text.push(' ')?;
-    text.push_str(letters(heap, bytes)?.as_str())?;
+    push_letters(&mut text, bytes)?;
     Ok(text)
 }
 

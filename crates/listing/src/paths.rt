@@ -1,9 +1,14 @@
 // The path that a backing name means.
+ghost use Rattle.std.specs.Prelude.{◌≡◌, IfOk, string_bytes};
+ghost use Rattle.listing.specs.Paths.{joined};
+
 use std::alloc::{AllocError, Global};
 use std::path::Path;
 
 // The path that a name means in the header of the image at `path`: as it is if absolute, else from the image's own folder.
-pub fn joined(heap: Global, path: &str, name: &str) -> Result<String, AllocError> {
+pub fn joined(heap: Global, path: &str, name: &str) -> Result<String, AllocError>
+    ensures value { IfOk result (λ s. string_bytes s ≡ joined path.now name.now) }
+{
     match Path::new(path).parent() {
         Some(folder) => Ok(folder.join(heap, name)?.into_string()),
         None => String::from_str(heap, name),

@@ -1,4 +1,7 @@
 // Lists of spoiled sectors as text: a number to a line; blank lines, and what follows a `#`, say nothing.
+ghost use Rattle.std.specs.Prelude.{◌≡◌, IfOk};
+ghost use Rattle.listing.specs.Spoiled.{said, number, heard, listed_as, listed};
+
 use std::alloc::{AllocError, Global};
 
 #[derive(Drop)]
@@ -9,23 +12,41 @@ pub enum Spoiled {
 }
 
 // What a line says without its comment.
-fn said(line: &str) -> &str {
+fn said(line: &str) -> &str
+    ensures value { result.now ≡ said line.now }
+{
     match line.split_once('#') {
         Some((front, _)) => front.trim(),
         None => line.trim(),
     }
 }
 
-pub fn spoiled_in(heap: Global, text: &str) -> Result<Spoiled, AllocError> {
+fn number(word: &str) -> Option<u64>
+    ensures value { result ≡ number word.now }
+{
+    word.parse::<u64>().ok()
+}
+
+// The number on a line, if it has one; nothing if it is bad.
+fn heard(line: &str) -> Option<Option<u64>>
+    ensures value { result ≡ heard line.now }
+{
+    let word = said(line);
+    if word.is_empty() {
+        return Some(None);
+    }
+    Some(Some(number(word)?))
+}
+
+pub fn spoiled_in(heap: Global, text: &str) -> Result<Spoiled, AllocError>
+    ensures value { IfOk result (λ s. listed_as s ≡ listed text.now) }
+{
     let mut sectors = Vec::new(heap);
     for (i, line) in text.lines().enumerate() {
-        let digits = said(line);
-        if digits.is_empty() {
-            continue;
-        }
-        match digits.parse::<u64>() {
-            Ok(sector) => sectors.push(sector)?,
-            Err(_) => return Ok(Spoiled::BadLine(i.saturating_add(1))),
+        match heard(line) {
+            None => return Ok(Spoiled::BadLine(i.saturating_add(1))),
+            Some(None) => continue,
+            Some(Some(sector)) => sectors.push(sector)?,
         }
     }
     Ok(Spoiled::Sectors(sectors))
