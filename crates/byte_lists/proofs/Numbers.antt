@@ -1,20 +1,16 @@
 -- Laws of big-endian numbers: round trips, and what a number is after each edit. Assumes nothing.
-use Rattle.std.proofs.Common.{◌≡◌, ℕ, zero, suc, ◌+◌, ◌*◌, ◌/◌, ◌%◌, ◌^◌, ◌<◌, ◌≤◌, leb, ◌⊎◌, List, [], ◌∷◌, length, get_or, drop, Some, None, sym, refl, ap, ◌∙◌, subst, inl, inr, add-zero, mod-eq_of_lt, mul_assoc, add-mul, zero-add, div-one, arith, length-drop}
+use Rattle.std.proofs.Common.{◌≡◌, ℕ, zero, suc, ◌+◌, ◌*◌, ◌/◌, ◌%◌, ◌^◌, ◌<◌, ◌≤◌, leb, eqb, cond, ◌⊎◌, List, [], ◌∷◌, length, get_or, take, drop, Some, None, sym, refl, ap, ◌∙◌, subst, inl, inr, mod-eq_of_lt, mul_assoc, add-mul, zero-add, div-one, arith, length-drop}
 use native.Mathlib.Nat.{pow-succ', mod-one}
 use lib.Arith.{mod-mul, digits_div, digits_mod, digits_lt}
 use borrow.Rule.Slice.PartMut.{put_mid}
 use Rattle.std.proofs.lemmas.List.{drop_more, drop_all}
-use Rattle.std.proofs.lemmas.Bool.{cond-true, le-leb}
+use Rattle.std.proofs.lemmas.Bool.{cond-true, le-leb, eq-eqb}
 use Rattle.byte_lists.specs.Runs.{run, put, zeros, grow, Octets}
-use Rattle.byte_lists.specs.Numbers.{be, be_bytes, number, spell, found}
-use Rattle.byte_lists.proofs.Runs.{length_run, get_or-run, run-put_same, run-put_apart, run-put_inside, run-grow_old, run-grow_new, run-run, length-put}
+use Rattle.byte_lists.specs.Numbers.{be, be_bytes, number, spell, length-be_bytes}
+use Rattle.byte_lists.specs.Found.{spelled_by, found_by}
+use Rattle.byte_lists.proofs.Runs.{length_run, run-put_same, run-put_apart, run-put_inside, run-grow_old, run-grow_new, run-run, length-put}
 use Rattle.byte_lists.proofs.Lent.{put_mid-is_put}
 use Rattle.byte_lists.proofs.Octets.{octets_run}
-
-pub length-be_bytes : (w x : ℕ) → length (be_bytes w x) ≡ w
-unfolding be_bytes
-length-be_bytes zero x = refl
-length-be_bytes (suc w) x = ap suc (length-be_bytes w x)
 
 big_pos : (w : ℕ) → 0 < 256 ^ w
 big_pos zero = omega arith
@@ -128,37 +124,15 @@ none_left : (bs : List ℕ) (n : ℕ) → length bs ≡ n → be (drop n bs) ≡
 unfolding be
 none_left bs n e = ap be (drop_all n bs (omega arith))
 
--- an element of a run at its first place
-first : (bs : List ℕ) (at n : ℕ) → 0 < n → get_or (run bs at n) 0 0 ≡ get_or bs at 0
-first bs at n h = get_or-run bs at n 0 h ∙ ap (λ k. get_or bs k 0) (add-zero at)
-
 -- numbers of 2, 4 and 8 bytes in a list, as the machine makes them
 pub be_two : (b : List ℕ) → length b ≡ 2 → be b ≡ get_or b 0 0 * 256 + get_or b 1 0
 be_two b e = omega (arith, none_left b 2 e, digit b 0 1 (omega arith), digit b 1 0 (omega arith))
 
-pub number_two : (bs : List ℕ) (at : ℕ) → at + 2 ≤ length bs → number bs at 2 ≡ get_or bs at 0 * 256 + get_or bs (at + 1) 0
-unfolding number
-number_two bs at h =
-    be_two (run bs at 2) (length_run bs at 2 h)
-    ∙ omega (arith, first bs at 2 (omega arith), get_or-run bs at 2 1 (omega arith))
-
 pub be_four : (b : List ℕ) → length b ≡ 4 → be b ≡ get_or b 0 0 * 16777216 + get_or b 1 0 * 65536 + get_or b 2 0 * 256 + get_or b 3 0
 be_four b e = omega (arith, none_left b 4 e, digit b 0 3 (omega arith), digit b 1 2 (omega arith), digit b 2 1 (omega arith), digit b 3 0 (omega arith))
 
-pub number_four : (bs : List ℕ) (at : ℕ) → at + 4 ≤ length bs → number bs at 4 ≡ get_or bs at 0 * 16777216 + get_or bs (at + 1) 0 * 65536 + get_or bs (at + 2) 0 * 256 + get_or bs (at + 3) 0
-unfolding number
-number_four bs at h =
-    be_four (run bs at 4) (length_run bs at 4 h)
-    ∙ omega (arith, first bs at 4 (omega arith), get_or-run bs at 4 1 (omega arith), get_or-run bs at 4 2 (omega arith), get_or-run bs at 4 3 (omega arith))
-
 pub be_eight : (b : List ℕ) → length b ≡ 8 → be b ≡ get_or b 0 0 * 72057594037927936 + get_or b 1 0 * 281474976710656 + get_or b 2 0 * 1099511627776 + get_or b 3 0 * 4294967296 + get_or b 4 0 * 16777216 + get_or b 5 0 * 65536 + get_or b 6 0 * 256 + get_or b 7 0
 be_eight b e = omega (arith, none_left b 8 e, digit b 0 7 (omega arith), digit b 1 6 (omega arith), digit b 2 5 (omega arith), digit b 3 4 (omega arith), digit b 4 3 (omega arith), digit b 5 2 (omega arith), digit b 6 1 (omega arith), digit b 7 0 (omega arith))
-
-pub number_eight : (bs : List ℕ) (at : ℕ) → at + 8 ≤ length bs → number bs at 8 ≡ get_or bs at 0 * 72057594037927936 + get_or bs (at + 1) 0 * 281474976710656 + get_or bs (at + 2) 0 * 1099511627776 + get_or bs (at + 3) 0 * 4294967296 + get_or bs (at + 4) 0 * 16777216 + get_or bs (at + 5) 0 * 65536 + get_or bs (at + 6) 0 * 256 + get_or bs (at + 7) 0
-unfolding number
-number_eight bs at h =
-    be_eight (run bs at 8) (length_run bs at 8 h)
-    ∙ omega (arith, first bs at 8 (omega arith), get_or-run bs at 8 1 (omega arith), get_or-run bs at 8 2 (omega arith), get_or-run bs at 8 3 (omega arith), get_or-run bs at 8 4 (omega arith), get_or-run bs at 8 5 (omega arith), get_or-run bs at 8 6 (omega arith), get_or-run bs at 8 7 (omega arith))
 
 -- their bytes, as the machine makes them
 pub two_bytes : (x : ℕ) → be_bytes 2 x ≡ (x / 256 % 256) ∷ (x % 256) ∷ []
@@ -173,17 +147,32 @@ pub eight_bytes : (x : ℕ) → be_bytes 8 x ≡ (x / 72057594037927936 % 256) �
 unfolding be_bytes
 eight_bytes x = rw div-one
 
--- what a reader of a number found
-pub found_is : (bs : List ℕ) (at w x : ℕ) → at + w ≤ length bs → x ≡ number bs at w → Some x ≡ found bs at w
-found_is bs at w x h e = ap (λ n. Some n) e ∙ sym (cond-true (leb (at + w) (length bs)) (Some (number bs at w)) None (le-leb (at + w) (length bs) h))
-
--- what a copy of a number's bytes leaves
-pub spell_is : (bs : List ℕ) (at w x n : ℕ) (new : List ℕ) → n ≡ w → new ≡ be_bytes w x → put_mid at n bs new ≡ spell bs at w x
-unfolding spell
-spell_is bs at w x n new e f = put_mid-is_put bs at n new (e ∙ sym (ap length f ∙ length-be_bytes w x)) ∙ ap (put bs at) f
-
 -- the low bytes of a number are its last ones
 pub be_bytes_last : (k w x : ℕ) → drop k (be_bytes (k + w) x) ≡ be_bytes w x
 unfolding be_bytes
 be_bytes_last zero w x = ap (λ n. be_bytes n x) (zero-add w)
 be_bytes_last (suc k) w x = let e : suc k + w ≡ suc (k + w) = omega arith in ap (λ n. drop (suc k) (be_bytes n x)) e ∙ be_bytes_last k w x
+
+-- what a list of its width spells, and what a reader of any number found
+pub spelled_is : (bs : List ℕ) (w x : ℕ) → length bs ≡ w → x ≡ be bs → Some x ≡ spelled_by be w bs
+spelled_is bs w x h e = ap (λ n. Some n) e ∙ sym (cond-true (eqb (length bs) w) (Some (be bs)) None (eq-eqb (length bs) w h))
+
+pub found_spelled : {N : Type 0} (number : List ℕ → ℕ → N) (of_bytes : List ℕ → N) (w at n : ℕ) (bs : List ℕ) → number bs at ≡ of_bytes (run bs at w) → n ≡ w → at + w ≤ length bs → spelled_by of_bytes w (take n (drop at bs)) ≡ found_by number w bs at
+unfolding run
+found_spelled number of_bytes w at n bs e m h =
+    let sub = take n (drop at bs) in
+    let same : sub ≡ run bs at w = ap (λ k. take k (drop at bs)) m in
+    let long : length sub ≡ w = ap length same ∙ length_run bs at w h in
+    cond-true (eqb (length sub) w) (Some (of_bytes sub)) None (eq-eqb (length sub) w long)
+    ∙ ap (λ k. Some k) (ap of_bytes same ∙ sym e)
+    ∙ sym (cond-true (leb (at + w) (length bs)) (Some (number bs at)) None (le-leb (at + w) (length bs) h))
+
+-- a number's bytes written into a lent part of a list
+pub spelled_in : {N : Type 0} (spell : List ℕ → ℕ → N → List ℕ) (in_bytes : N → List ℕ) (w at n : ℕ) (bs room : List ℕ) (x : N) → spell bs at x ≡ put bs at (in_bytes x) → length (in_bytes x) ≡ w → n ≡ w → room ≡ cond (eqb (length (take n (drop at bs))) w) (in_bytes x) (take n (drop at bs)) → at + w ≤ length bs → put_mid at n bs room ≡ spell bs at x
+unfolding run
+spelled_in spell in_bytes w at n bs room x e long m was h =
+    let sub = take n (drop at bs) in
+    let same : sub ≡ run bs at w = ap (λ k. take k (drop at bs)) m in
+    let whole : length sub ≡ w = ap length same ∙ length_run bs at w h in
+    let new : room ≡ in_bytes x = was ∙ cond-true (eqb (length sub) w) (in_bytes x) sub (eq-eqb (length sub) w whole) in
+    put_mid-is_put bs at n room (omega (arith, long, m, ap length new)) ∙ ap (put bs at) new ∙ sym e

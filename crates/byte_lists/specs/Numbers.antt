@@ -4,7 +4,8 @@
 --   number     the number in the w bytes at a place
 --   spell      a list with the number at a place replaced
 --   found      that number, or none where it passes the end
-use Rattle.std.specs.Prelude.{ℕ, zero, suc, ◌+◌, ◌*◌, ◌/◌, ◌%◌, ◌^◌, cond, List, [], ◌∷◌, length, Some, None, Option, nat_le}
+use Rattle.std.specs.Prelude.{◌≡◌, ℕ, zero, suc, ◌+◌, ◌*◌, ◌/◌, ◌%◌, ◌^◌, cond, List, [], ◌∷◌, length, Some, None, Option, nat_le, refl}
+use Rattle.std.proofs.Common.{ap}
 use Rattle.byte_lists.specs.Runs.{run, put}
 
 unfoldable pub be : List ℕ → ℕ
@@ -23,3 +24,17 @@ spell bs at w x = put bs at (be_bytes w x)
 
 abbrev pub found : List ℕ → ℕ → ℕ → Option ℕ
 found bs at w = cond (nat_le (at + w) (length bs)) (Some (number bs at w)) None
+
+-- a number is what its run spells, and setting one puts its bytes
+pub number_is : (bs : List ℕ) (at w : ℕ) → number bs at w ≡ be (run bs at w)
+unfolding number
+number_is bs at w = refl
+
+pub spell_is_put : (bs : List ℕ) (at w x : ℕ) → spell bs at w x ≡ put bs at (be_bytes w x)
+unfolding spell
+spell_is_put bs at w x = refl
+
+pub length-be_bytes : (w x : ℕ) → length (be_bytes w x) ≡ w
+unfolding be_bytes
+length-be_bytes zero x = refl
+length-be_bytes (suc w) x = ap suc (length-be_bytes w x)

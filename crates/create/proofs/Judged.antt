@@ -5,7 +5,8 @@ use Rattle.byte_lists.specs.Runs.{run}
 use Rattle.byte_lists.specs.Numbers.{be, be_bytes, number, spell}
 use Rattle.byte_lists.specs.Fields.{field, spelled}
 use Rattle.byte_lists.proofs.Runs.{get_or-run, run-put_same}
-use Rattle.byte_lists.proofs.Numbers.{length-spell, length-be_bytes}
+use Rattle.byte_lists.proofs.Numbers.{length-spell}
+use Rattle.byte_lists.specs.Numbers.{length-be_bytes}
 use Rattle.byte_lists.proofs.Fields.{number_spelled, run-spelled_below}
 use Rattle.format.specs.declared.numbers.Numbers.{Numbers}
 use Rattle.format.specs.Clusters.{cluster}

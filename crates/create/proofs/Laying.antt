@@ -6,7 +6,8 @@ use Rattle.byte_lists.specs.Runs.{put}
 use Rattle.byte_lists.specs.Numbers.{be_bytes, spell}
 use Rattle.byte_lists.specs.Fields.{spelled, Ordered}
 use Rattle.byte_lists.specs.declared.Field.{Field}
-use Rattle.byte_lists.proofs.Numbers.{be_bytes_last, length-be_bytes, length-spell}
+use Rattle.byte_lists.proofs.Numbers.{be_bytes_last, length-spell}
+use Rattle.byte_lists.specs.Numbers.{length-be_bytes}
 use Rattle.byte_lists.proofs.Fields.{ordered_end}
 use Rattle.store.specs.Calls.{after}
 use Rattle.store.specs.Stores.{stored}

@@ -26,7 +26,7 @@ pub(crate) fn sectors_in(list: &[u8]) -> u64
     ensures most { result ≤ 2 ^ 55 }
     ensures octets { Octets list.now }
 {
-    (length_of(list) as u64 + 511) / 512
+    (length_of(list) as u64).div_ceil(512)
 }
 
 // The sector of a list that has it.
@@ -48,9 +48,8 @@ impl Disk for RawDisk<'_> {
     }
 
     fn read_sector(&self, sector: u64, out: &mut [u8; 512]) -> Result<(), Fault> {
-        if sector >= sectors_in(self.list) {
-            return Err(Fault::new(Reason::PastDisk, Layer::Disk, sector));
-        }
+        let within = sector < sectors_in(self.list);
+        Layer::Disk.demand(within, Reason::PastDisk, sector)?;
         copy_sector(self.list, sector, out);
         Ok(())
     }

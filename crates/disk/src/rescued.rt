@@ -24,12 +24,7 @@ impl<'a> RescuedDisk<'a> {
 fn is_spoilt(spoiled: &[u64], sector: u64) -> bool
     ensures value { result ≡ spoilt spoiled.now sector }
 {
-    for x in spoiled {
-        if *x == sector {
-            return true;
-        }
-    }
-    false
+    spoiled.contains(&sector)
 }
 
 impl Disk for RescuedDisk<'_> {
@@ -40,12 +35,9 @@ impl Disk for RescuedDisk<'_> {
     }
 
     fn read_sector(&self, sector: u64, out: &mut [u8; 512]) -> Result<(), Fault> {
-        if sector >= sectors_in(self.list) {
-            return Err(Fault::new(Reason::PastDisk, Layer::Disk, sector));
-        }
-        if is_spoilt(self.spoiled, sector) {
-            return Err(Fault::new(Reason::Spoiled, Layer::Disk, sector));
-        }
+        let within = sector < sectors_in(self.list);
+        Layer::Disk.demand(within, Reason::PastDisk, sector)?;
+        Layer::Disk.demand(!is_spoilt(self.spoiled, sector), Reason::Spoiled, sector)?;
         copy_sector(self.list, sector, out);
         Ok(())
     }

@@ -27,9 +27,8 @@ impl Disk for ZerosDisk {
     }
 
     fn read_sector(&self, sector: u64, out: &mut [u8; 512]) -> Result<(), Fault> {
-        if sector >= self.sectors() {
-            return Err(Fault::new(Reason::PastDisk, Layer::Disk, sector));
-        }
+        let within = sector < self.sectors();
+        Layer::Disk.demand(within, Reason::PastDisk, sector)?;
         out.fill(0);
         Ok(())
     }

@@ -1,7 +1,7 @@
 -- What a judgement after another says of both. Assumes nothing.
 use Rattle.std.proofs.Common.{◌≡◌, ℕ, zero, suc, ◌+◌, ◌-◌, ◌<◌, ◌≤◌, Bool, true, false, cond, Ok, Err, Result, sym, refl, ap, ◌∙◌, add-zero, arith}
 use Rattle.fault.specs.declared.Fault.{Fault}
-use Rattle.fault.specs.Outcomes.{and_then, each}
+use Rattle.fault.specs.Outcomes.{demanded, and_then, each}
 
 -- an outcome is not both
 pub not_both : {X : Type 0} {r : Result X Fault} (x : X) (f : Fault) → r ≡ Ok x → r ≡ Err f → ⊥
@@ -24,6 +24,11 @@ then_is r f x e = ap (λ s. and_then s f) e
 pub passed : {X : Type 0} (t : Bool) (x y : X) (d : Fault) → cond t (Ok x) (Err d) ≡ Ok y → (t ≡ true) × (x ≡ y)
 passed true x y d e = (refl, cc)
 passed false x y d e = absurd (not_both y d e refl)
+
+-- a demand that was met
+pub demand_met : (u : Unit {0}) (passed : Bool) (f : Fault) → Ok u ≡ demanded passed f → passed ≡ true
+demand_met u true f e = refl
+demand_met u false f e = absurd (not_both u f refl e)
 
 -- a ground for refusal that was not given
 pub not_refused : {X : Type 0} (t : Bool) (d : Fault) (r : Result X Fault) (y : X) → cond t (Err d) r ≡ Ok y → (t ≡ false) × (r ≡ Ok y)

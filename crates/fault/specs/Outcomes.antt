@@ -1,10 +1,14 @@
 -- Outcomes: a value or the first fault. Assumes nothing.
+--   demanded   a test that was passed, or the fault of one that was not
 --   and_then   a judgement after another: the first fault ends it
 --   each      k judgements in a row, from number i on: the first fault ends them
 --   Gives     what a call answered and left is what the outcome says; a refusal leaves all as it was
 --   Tells     the same of what a call may leave in any state when it refuses, as working space
-use Rattle.std.specs.Prelude.{◌≡◌, ℕ, zero, suc, ◌+◌, Ok, Err, Result, MatchResult}
+use Rattle.std.specs.Prelude.{◌≡◌, ℕ, zero, suc, ◌+◌, Bool, cond, Ok, Err, Result, MatchResult}
 use Rattle.fault.specs.declared.Fault.{Fault}
+
+abbrev pub demanded : Bool → Fault → Result (Unit {0}) Fault
+demanded passed f = cond passed (Ok tt) (Err f)
 
 abbrev pub and_then : {X Y : Type 0} → Result X Fault → (X → Result Y Fault) → Result Y Fault
 and_then (Ok x) f = f x

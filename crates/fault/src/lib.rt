@@ -3,9 +3,8 @@
 
 ghost use Rattle.std.specs.Prelude.{◌≡◌, [], ◌∷◌, Some, Decides};
 ghost use Rattle.std.proofs.Math.Utf8.{encode};
+ghost use Rattle.fault.specs.Outcomes.{demanded};
 ghost use Rattle.fault.specs.Faults.{number as number_of, letter as letter_of, words as words_of, fault, deeper as deeper_of, shown as shown_of, same_reason, same_fault};
-ghost use Rattle.fault.specs.Same.{reason_laws, fault_laws};
-ghost use Rattle.std.specs.Cmp as Keys;
 
 use std::fmt;
 
@@ -19,38 +18,38 @@ pub enum Layer {
     Call,
 }
 
-// One case for each ground of refusal. docs/CALLS.md has the table with numbers, layers and places.
-#[derive(Clone, Copy, Debug)]
+// One case for each ground of refusal, under its number. docs/CALLS.md has the table with layers and places.
+#[derive(Clone, Copy, PartialEq, Eq, Debug)]
 pub enum Reason {
-    NotQcow2,
-    Version,
-    ClusterBits,
-    StoreLength,
-    Features,
-    HeaderForm,
-    GuestSize,
-    TablePlace,
-    BackingName,
-    NameTooLong,
-    NotEmpty,
-    NotClean,
-    Sectors,
-    BadEntry,
-    Compressed,
-    NoRoom,
-    BadId,
-    IdInUse,
-    NoSuchId,
-    SnapshotsFull,
-    ListTooShort,
-    PastDisk,
-    Spoiled,
-    PastStore,
-    Growth,
+    NotQcow2 = 1,
+    Version = 2,
+    ClusterBits = 3,
+    StoreLength = 4,
+    Features = 5,
+    HeaderForm = 6,
+    GuestSize = 7,
+    TablePlace = 8,
+    BackingName = 9,
+    NameTooLong = 10,
+    NotEmpty = 11,
+    NotClean = 12,
+    Sectors = 13,
+    BadEntry = 14,
+    Compressed = 15,
+    NoRoom = 16,
+    BadId = 17,
+    IdInUse = 18,
+    NoSuchId = 19,
+    SnapshotsFull = 20,
+    ListTooShort = 21,
+    PastDisk = 22,
+    Spoiled = 23,
+    PastStore = 24,
+    Growth = 25,
 }
 
 // Why, where, and how many backing disks were passed on the way up.
-#[derive(Clone, Copy, Debug)]
+#[derive(Clone, Copy, PartialEq, Eq, Debug)]
 pub struct Fault {
     pub reason: Reason,
     pub layer: Layer,
@@ -70,39 +69,24 @@ impl Layer {
             Layer::Call => 'C',
         }
     }
+
+    // Goes on where a test was passed, and else refuses in this layer.
+    pub fn demand(self, passed: bool, reason: Reason, place: u64) -> Result<(), Fault>
+        ensures value { result ≡ demanded passed (fault reason self place) }
+    {
+        if passed {
+            Ok(())
+        } else {
+            Err(Fault::new(reason, self, place))
+        }
+    }
 }
 
 impl Reason {
     pub fn number(self) -> u8
         ensures value { result ≡ number_of self }
     {
-        match self {
-            Reason::NotQcow2 => 1,
-            Reason::Version => 2,
-            Reason::ClusterBits => 3,
-            Reason::StoreLength => 4,
-            Reason::Features => 5,
-            Reason::HeaderForm => 6,
-            Reason::GuestSize => 7,
-            Reason::TablePlace => 8,
-            Reason::BackingName => 9,
-            Reason::NameTooLong => 10,
-            Reason::NotEmpty => 11,
-            Reason::NotClean => 12,
-            Reason::Sectors => 13,
-            Reason::BadEntry => 14,
-            Reason::Compressed => 15,
-            Reason::NoRoom => 16,
-            Reason::BadId => 17,
-            Reason::IdInUse => 18,
-            Reason::NoSuchId => 19,
-            Reason::SnapshotsFull => 20,
-            Reason::ListTooShort => 21,
-            Reason::PastDisk => 22,
-            Reason::Spoiled => 23,
-            Reason::PastStore => 24,
-            Reason::Growth => 25,
-        }
+        self as u8
     }
 
     // A few plain words for people.
@@ -137,47 +121,25 @@ impl Reason {
             Reason::Growth => "growth out of bounds",
         }
     }
-}
 
-// Reasons are compared by their numbers, which tell them apart.
-impl PartialEq for Reason {
-    ghost eq = { same_reason };
-
-    ghost laws = { Keys.partial_equiv_from_equiv reason_laws };
-
-    fn eq(&self, other: &Reason) -> bool
-        ensures value { result ≡ same_reason self.now other.now }
-        ensures decides { Decides result (self.now ≡ other.now) }
+    // Whether it is that reason.
+    pub fn is(self, reason: Reason) -> bool
+        ensures value { result ≡ same_reason self reason }
+        ensures decides { Decides result (self ≡ reason) }
     {
-        self.number() == other.number()
+        self == reason
     }
-}
-
-impl Eq for Reason {
-    ghost laws = { reason_laws };
-}
-
-impl PartialEq for Fault {
-    ghost eq = { same_fault };
-
-    ghost laws = { Keys.partial_equiv_from_equiv fault_laws };
-
-    fn eq(&self, other: &Fault) -> bool
-        ensures value { result ≡ same_fault self.now other.now }
-        ensures decides { Decides result (self.now ≡ other.now) }
-    {
-        self.reason == other.reason
-            && self.layer == other.layer
-            && self.place == other.place
-            && self.depth == other.depth
-    }
-}
-
-impl Eq for Fault {
-    ghost laws = { fault_laws };
 }
 
 impl Fault {
+    // Whether it is that fault, in all parts.
+    pub fn is(self, fault: Fault) -> bool
+        ensures value { result ≡ same_fault self fault }
+        ensures decides { Decides result (self ≡ fault) }
+    {
+        self == fault
+    }
+
     // A fault where it first arises, no backing disk passed yet.
     pub fn new(reason: Reason, layer: Layer, place: u64) -> Fault
         ensures value { result ≡ fault reason layer place }
@@ -195,10 +157,8 @@ impl Fault {
         ensures value { result ≡ deeper_of self }
     {
         Fault {
-            reason: self.reason,
-            layer: self.layer,
-            place: self.place,
             depth: self.depth.saturating_add(1),
+            ..self
         }
     }
 }
@@ -209,6 +169,15 @@ impl fmt::Display for Layer {
     fn fmt<W: fmt::Write>(&self, f: &mut fmt::Formatter<W>) -> fmt::Result {
         let c = self.letter();
         write!(f, "{c}")
+    }
+}
+
+impl fmt::Display for Reason {
+    ghost output = { λ x. Some (words_of x) };
+
+    fn fmt<W: fmt::Write>(&self, f: &mut fmt::Formatter<W>) -> fmt::Result {
+        let words = self.words();
+        write!(f, "{words}")
     }
 }
 

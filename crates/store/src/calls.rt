@@ -20,7 +20,7 @@ fn same_verdict(x: Result<(), Fault>, y: Result<(), Fault>) -> bool
 {
     match (x, y) {
         (Ok(()), Ok(())) => true,
-        (Err(e), Err(f)) => e == f,
+        (Err(e), Err(f)) => e.is(f),
         _ => false,
     }
 }

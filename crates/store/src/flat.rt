@@ -4,7 +4,7 @@ ghost use Rattle.byte_lists.specs.Runs.{Octets};
 ghost use Rattle.store.specs.Flat.{flat_bytes, flat_limit};
 
 use crate::Store;
-use crate::runs::{clear_run, copy_run, replace_run, within};
+use crate::runs::{clear_run, read_from, replace_in};
 use byte_lists::length_of;
 use fault::{Fault, Layer, Reason};
 
@@ -45,19 +45,13 @@ impl Store for FlatStore<'_> {
     }
 
     fn read(&self, first: u64, out: &mut [u8]) -> Result<(), Fault> {
-        if !within(first, out.len(), self.in_use()) {
-            return Err(Fault::new(Reason::PastStore, Layer::Store, first));
-        }
-        copy_run(self.list, first as usize, out);
-        Ok(())
+        let used = self.in_use();
+        read_from(&self.list[0..used], first, out)
     }
 
     fn replace(&mut self, first: u64, new: &[u8]) -> Result<(), Fault> {
-        if !within(first, new.len(), self.in_use()) {
-            return Err(Fault::new(Reason::PastStore, Layer::Store, first));
-        }
-        replace_run(self.list, first as usize, new);
-        Ok(())
+        let used = self.in_use();
+        replace_in(&mut self.list[0..used], first, new)
     }
 
     fn grow(&mut self, length: u64) -> Result<(), Fault> {

@@ -16,7 +16,8 @@ mod split;
 
 pub use calls::{StoreCall, agree};
 pub use flat::FlatStore;
-pub use numbers::{read_u16, read_u64};
+pub use numbers::read_number;
+pub use runs::{read_from, replace_in};
 pub use split::SplitStore;
 
 pub trait Store {

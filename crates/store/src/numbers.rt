@@ -1,22 +1,17 @@
 // Big-endian numbers read from a store.
 ghost use Rattle.std.specs.Prelude.{◌≡◌};
-ghost use Rattle.store.specs.Words.{word};
+ghost use Rattle.store.specs.Words.{word_by};
 
 use crate::Store;
+use byte_lists::Number;
 use fault::Fault;
 
-pub fn read_u64<S: Store>(s: &S, place: u64) -> Result<u64, Fault>
-    ensures value { result ≡ word (S.Store.bytes s.now) place 8 }
+// The number at a place, of any width.
+pub fn read_number<T: Number, S: Store>(s: &S, place: u64) -> Result<T, Fault>
+    ensures value { result ≡ word_by T.Number.of_bytes T.Number.WIDTH (S.Store.bytes s.now) place }
 {
     let mut bytes = [0u8; 8];
-    s.read(place, &mut bytes)?;
-    Ok(u64::from_be_bytes(bytes))
-}
-
-pub fn read_u16<S: Store>(s: &S, place: u64) -> Result<u16, Fault>
-    ensures value { result ≡ word (S.Store.bytes s.now) place 2 }
-{
-    let mut bytes = [0u8; 2];
-    s.read(place, &mut bytes)?;
-    Ok(u16::from_be_bytes(bytes))
+    let room = &mut bytes[0..T::WIDTH];
+    s.read(place, room)?;
+    Ok(T::from_bytes(room).unwrap())
 }

@@ -1,12 +1,35 @@
 // Runs of a lent byte list: copied out, replaced, cleared.
-ghost use Rattle.std.specs.Prelude.{◌≡◌, ◌+◌, ◌≤◌, Bool, ◌&&◌, length, nat_le};
+ghost use Rattle.std.specs.Prelude.{◌≡◌, ◌+◌, ◌≤◌, length};
 ghost use Rattle.byte_lists.specs.Runs.{run, put, zeros};
+ghost use Rattle.fault.specs.Outcomes.{Gives};
+ghost use Rattle.store.specs.Stores.{load, stored, run_judged};
 
-// Whether n bytes from `first` on lie within `length`, as a true sum that never wraps.
-pub(crate) fn within(first: u64, n: usize, length: usize) -> bool
-    ensures value { result ≡ nat_le (first + n) length }
+use byte_lists::within;
+use fault::{Fault, Layer, Reason};
+
+fn judge_run(first: u64, n: usize, length: usize) -> Result<(), Fault>
+    ensures value { result ≡ run_judged first n length }
 {
-    first <= length as u64 && n as u64 <= length as u64 - first
+    let passed = within(first, n as u64, length as u64);
+    Layer::Store.demand(passed, Reason::PastStore, first)
+}
+
+// Reads a run of a list that is in use as a whole.
+pub fn read_from(list: &[u8], first: u64, out: &mut [u8]) -> Result<(), Fault>
+    ensures outcome { Gives result (load list.now first (length out.old)) out.old out.new }
+{
+    judge_run(first, out.len(), list.len())?;
+    copy_run(list, first as usize, out);
+    Ok(())
+}
+
+// Replaces a run of such a list.
+pub fn replace_in(list: &mut [u8], first: u64, new: &[u8]) -> Result<(), Fault>
+    ensures outcome { Gives result (stored list.old first new.now) list.old list.new }
+{
+    judge_run(first, new.len(), list.len())?;
+    replace_run(list, first as usize, new);
+    Ok(())
 }
 
 pub(crate) fn copy_run(list: &[u8], at: usize, out: &mut [u8])

@@ -4,8 +4,8 @@ ghost use Rattle.byte_lists.specs.Runs.{Octets};
 ghost use Rattle.store.specs.Split.{joined, split_bytes, split_limit, Across};
 
 use crate::Store;
-use crate::runs::{clear_run, copy_run, replace_run, within};
-use byte_lists::length_of;
+use crate::runs::{clear_run, copy_run, replace_run};
+use byte_lists::{length_of, within};
 use fault::{Fault, Layer, Reason};
 
 #[derive(Drop)]
@@ -70,7 +70,7 @@ impl Store for SplitStore<'_> {
     }
 
     fn read(&self, first: u64, out: &mut [u8]) -> Result<(), Fault> {
-        if !within(first, out.len(), self.in_use()) {
+        if !within(first, out.len() as u64, self.in_use() as u64) {
             return Err(Fault::new(Reason::PastStore, Layer::Store, first));
         }
         let n = out.len();
@@ -81,7 +81,7 @@ impl Store for SplitStore<'_> {
     }
 
     fn replace(&mut self, first: u64, new: &[u8]) -> Result<(), Fault> {
-        if !within(first, new.len(), self.in_use()) {
+        if !within(first, new.len() as u64, self.in_use() as u64) {
             return Err(Fault::new(Reason::PastStore, Layer::Store, first));
         }
         let Cut { before, low, high } = cut_at(first as usize, new.len(), self.front.len());

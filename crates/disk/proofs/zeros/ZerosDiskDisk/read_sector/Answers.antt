@@ -1,5 +1,6 @@
-use Rattle.std.proofs.Common.{◌≡◌, ◌^◌, ◌<◌, min, ltb, Ok, sym, ap, ◌∙◌, subst}
-use Rattle.std.proofs.lemmas.Bool.{cond-true, lt-ltb}
+use Rattle.std.proofs.Common.{◌≡◌, ◌^◌, min, ltb, Ok, sym, ap, ◌∙◌, subst, true}
+use Rattle.std.proofs.lemmas.Bool.{cond-true}
+use Rattle.fault.proofs.Outcomes.{demand_met}
 use Rattle.byte_lists.specs.Runs.{zeros}
 use Rattle.disk.specs.Readings.{past_end}
 use Rattle.disk.proofs.zeros.ZerosDiskDisk.read_sector.Goals as goal
@@ -10,5 +11,5 @@ returns c =
     let s = c.args.sector in
     let n = min c.args.self.now.count (2 ^ 55) in
     let filled : c.fill.new.self ≡ zeros 512 = c.fill.ensures.after (λ y e. e) ∙ ap zeros c.told-out in
-    let below : s < n = subst (λ k. s < k) c.sectors.ensures.value c.if-sector-sectors.false in
-    record { outcome = cond-true (ltb s n) (Ok (zeros 512)) (past_end s) (lt-ltb s n below) ∙ ap (λ l. Ok l) (sym filled) }
+    let below : ltb s n ≡ true = subst (λ k. ltb s k ≡ true) c.sectors.ensures.value (demand_met _ _ _ c.in_ok-demand.ensures.value) in
+    record { outcome = cond-true (ltb s n) (Ok (zeros 512)) (past_end s) below ∙ ap (λ l. Ok l) (sym filled) }

@@ -1,6 +1,0 @@
-use Rattle.std.proofs.Common.{sym, ◌∙◌, arith, rules}
-use Rattle.byte_lists.proofs.Numbers.{spell_is, four_bytes}
-use Rattle.byte_lists.proofs.put_u32.Goals as goal
-
-pub returns : goal.returns
-returns c = record { value = search rules; after = spell_is c.args.list.now c.args.at 4 c.args.x _ c.copy_from_slice.new.self (omega arith) (c.copy_from_slice.ensures.after ∙ c.to_be_bytes.ensures ∙ sym (four_bytes c.args.x)) }
