@@ -20,24 +20,25 @@ pub struct Layer<S> {
 pub(crate) fn sectors_in<S: Store, B: Disk>(layers: &[Layer<S>], base: &B) -> u64
     ensures value { result ≡ (chain_of (λ l. l.header) (λ l. S.Store.bytes l.store) layers.now (B.Disk.reading base.now)).sectors }
 {
-    if layers.len() == 0 {
-        return base.sectors();
+    match layers {
+        [] => base.sectors(),
+        [top, ..] => mount_sectors(top.header),
     }
-    let top = &layers[0];
-    mount_sectors(top.header)
 }
 
 // What every disk owes, from what each layer's store and the base owe.
 pub(crate) fn know_sound<S: Store, B: Disk>(layers: &[Layer<S>], base: &B)
     ensures sound { Sound (chain_of (λ l. l.header) (λ l. S.Store.bytes l.store) layers.now (B.Disk.reading base.now)) }
 {
-    if layers.len() == 0 {
-        let _ = base.sectors();
-        return;
+    match layers {
+        [] => {
+            let _ = base.sectors();
+        }
+        [top, under @ ..] => {
+            let _ = top.store.length();
+            know_sound(under, base);
+        }
     }
-    let top = &layers[0];
-    let _ = top.store.length();
-    know_sound(&layers[1..layers.len()], base);
 }
 
 // Whether the disk below, of so many sectors, shows through an entry.
@@ -56,21 +57,15 @@ pub(crate) fn read_layers<S: Store, B: Disk>(
 ) -> Result<(), Fault>
     ensures outcome { Gives result ((chain_of (λ l. l.header) (λ l. S.Store.bytes l.store) layers.now (B.Disk.reading base.now)).answer sector) out.old out.new }
 {
-    if layers.len() == 0 {
+    let [top, rest @ ..] = layers else {
         return base.read_sector(sector, out);
-    }
-    let top = &layers[0];
-    let rest = &layers[1..layers.len()];
-    if sector >= mount_sectors(top.header) {
-        return Err(Fault::new(Reason::PastDisk, Where::Disk, sector));
-    }
+    };
+    let within = sector < mount_sectors(top.header);
+    Where::Disk.demand(within, Reason::PastDisk, sector)?;
     let n = top.header?;
     let e = entry_of(&top.store, n, n.l1, sector / n.cluster_sectors())?;
     if !goes_under(n, e, sector, sectors_in(rest, base)) {
         return read_entry(&top.store, &ZerosDisk::new(0), n, e, sector, out);
     }
-    match read_layers(rest, base, sector, out) {
-        Ok(()) => Ok(()),
-        Err(f) => Err(f.deeper()),
-    }
+    read_layers(rest, base, sector, out).map_err(Fault::deeper)
 }

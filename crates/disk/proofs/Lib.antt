@@ -1,3 +1,2 @@
 pub mod Sounds
 mod Sectors
-mod Spoilt

@@ -5,7 +5,8 @@
 --   raw_reading       the sectors of a byte list
 --   spoilt            whether a list of sector numbers has a sector
 --   rescued_reading   the same, but spoiled sectors refuse
-use Rattle.std.specs.Prelude.{ℕ, ◌+◌, ◌*◌, ◌/◌, ◌^◌, min, Bool, false, cond, ◌||◌, List, [], ◌∷◌, length, Ok, Err, ◌==◌}
+use Rattle.std.specs.Prelude.{ℕ, ◌+◌, ◌*◌, ◌/◌, ◌^◌, min, Bool, cond, List, length, Ok, Err, ◌==◌}
+use Rattle.std.specs.List.{list_any}
 use Rattle.fault.specs.declared.Layer.TheVariants.{Disk}
 use Rattle.fault.specs.declared.Reason.TheVariants.{Spoiled}
 use Rattle.fault.specs.Faults.{fault}
@@ -25,8 +26,7 @@ abbrev pub raw_reading : List ℕ → Reading
 raw_reading bs = shown (sectors_of (length bs)) (λ s. Ok (sector bs s))
 
 abbrev pub spoilt : List ℕ → ℕ → Bool
-spoilt [] s = false
-spoilt (x ∷ xs) s = x == s || spoilt xs s
+spoilt xs s = list_any (λ x. x == s) xs
 
 abbrev pub rescued_reading : List ℕ → List ℕ → Reading
 rescued_reading bs spoiled = shown (sectors_of (length bs)) (λ s. cond (spoilt spoiled s) (Err (fault Spoiled Disk s)) (Ok (sector bs s)))

@@ -1,4 +1,3 @@
 pub mod Clusters
 pub mod Header
 pub mod Entries
-pub mod Records

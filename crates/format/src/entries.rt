@@ -13,6 +13,15 @@ pub struct Entry {
     pub zero: bool,
 }
 
+impl Entry {
+    // What a table shows where it has nothing.
+    pub const EMPTY: Entry = Entry {
+        offset: 0,
+        copied: false,
+        zero: false,
+    };
+}
+
 const ABOVE_OFFSET: u64 = 1 << 56;
 
 fn offset_in(word: u64) -> u64

@@ -3,7 +3,7 @@ ghost use Rattle.std.specs.Prelude.{◌≡◌, ◌<◌};
 ghost use Rattle.format.specs.Header.{filled_up, filled_length};
 
 use crate::numbers::cluster_of;
-use byte_lists::u32_at;
+use byte_lists::number_at;
 
 fn fill_up(n: u64, c: u64) -> u64
     requires { 0 < c }
@@ -20,13 +20,8 @@ fn fill_up(n: u64, c: u64) -> u64
 pub fn filled_length(first: &[u8], length: u64) -> u64
     ensures value { result ≡ filled_length first.now length }
 {
-    match u32_at(first, 20) {
-        None => length,
-        Some(bits) => {
-            if bits < 9 || bits > 21 {
-                return length;
-            }
-            fill_up(length, cluster_of(bits))
-        }
+    match number_at::<u32>(first, 20) {
+        Some(bits) if 9 <= bits && bits <= 21 => fill_up(length, cluster_of(bits)),
+        _ => length,
     }
 }

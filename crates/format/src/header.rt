@@ -1,29 +1,11 @@
 // Judging a header: the first bytes of a store, to its numbers or the first fault.
 ghost use Rattle.std.specs.Prelude.{◌≡◌, ◌+◌, ◌≤◌, Bool, true, false, length, drop, if◌then◌else◌, MatchOption, nat_eq, nat_le};
-ghost use Rattle.byte_lists.specs.Numbers.{number};
-ghost use Rattle.format.specs.Header.{good, fields_from, header as header_in, header_of, opens, kind_judged, places_judged, version_good, bits_good, length_good, header_good, size_good, table_good, extent_good, records_good, letters_good, name_good};
+ghost use Rattle.format.specs.Header.{fields_from, header as header_in, header_of, opens, kind_judged, places_judged, version_good, bits_good, length_good, header_good, size_good, table_good, extent_good, records_good, letters_good, name_good};
 
 use crate::numbers::Numbers;
-use byte_lists::{u32_at, u64_at};
+use byte_lists::{Number, number_at, within};
 use fault::{Fault, Layer, Reason};
 use store::Store;
-
-fn check(test: bool, reason: Reason, place: u64) -> Result<(), Fault>
-    ensures value { result ≡ good test reason place }
-{
-    if test {
-        Ok(())
-    } else {
-        Err(Fault::new(reason, Layer::Header, place))
-    }
-}
-
-// Whether n bytes from `at` on lie within `length`, as a true sum.
-pub(crate) fn within(at: u64, n: u64, length: u64) -> bool
-    ensures value { result ≡ nat_le (at + n) length }
-{
-    at <= length && n <= length - at
-}
 
 impl Numbers {
     pub fn version_good(self) -> bool
@@ -98,72 +80,58 @@ impl Numbers {
     fn judge_kind(self, length: u64) -> Result<(), Fault>
         ensures value { result ≡ kind_judged self length }
     {
-        check(self.version_good(), Reason::Version, 4)?;
-        check(self.bits_good(), Reason::ClusterBits, 20)?;
-        check(self.length_good(length), Reason::StoreLength, length)?;
-        check(self.crypt == 0, Reason::Features, 32)?;
-        check(self.incompatible == 0, Reason::Features, 72)?;
-        check(self.autoclear == 0, Reason::Features, 88)?;
-        check(self.order == 4, Reason::HeaderForm, 96)?;
-        check(self.header_good(), Reason::HeaderForm, 100)
+        Layer::Header.demand(self.version_good(), Reason::Version, 4)?;
+        Layer::Header.demand(self.bits_good(), Reason::ClusterBits, 20)?;
+        Layer::Header.demand(self.length_good(length), Reason::StoreLength, length)?;
+        Layer::Header.demand(self.crypt == 0, Reason::Features, 32)?;
+        Layer::Header.demand(self.incompatible == 0, Reason::Features, 72)?;
+        Layer::Header.demand(self.autoclear == 0, Reason::Features, 88)?;
+        Layer::Header.demand(self.order == 4, Reason::HeaderForm, 96)?;
+        Layer::Header.demand(self.header_good(), Reason::HeaderForm, 100)
     }
 
     // Its size, the places of its tables, and its backing name.
     fn judge_places(self, length: u64) -> Result<(), Fault>
         ensures value { result ≡ places_judged self length }
     {
-        check(self.size_good(), Reason::GuestSize, 24)?;
-        check(
+        Layer::Header.demand(self.size_good(), Reason::GuestSize, 24)?;
+        Layer::Header.demand(
             self.entries as u64 == self.needed_entries(),
             Reason::GuestSize,
             36,
         )?;
-        check(self.table_good(length, self.l1, 1), Reason::TablePlace, 40)?;
-        check(self.extent_good(), Reason::TablePlace, 56)?;
-        check(
+        Layer::Header.demand(self.table_good(length, self.l1, 1), Reason::TablePlace, 40)?;
+        Layer::Header.demand(self.extent_good(), Reason::TablePlace, 56)?;
+        Layer::Header.demand(
             self.table_good(length, self.refcounts, self.extent),
             Reason::TablePlace,
             48,
         )?;
-        check(self.snapshots <= 64, Reason::TablePlace, 60)?;
-        check(self.records_good(length), Reason::TablePlace, 64)?;
-        check(self.letters_good(), Reason::BackingName, 16)?;
-        check(self.name_good(), Reason::BackingName, 8)
+        Layer::Header.demand(self.snapshots <= 64, Reason::TablePlace, 60)?;
+        Layer::Header.demand(self.records_good(length), Reason::TablePlace, 64)?;
+        Layer::Header.demand(self.letters_good(), Reason::BackingName, 16)?;
+        Layer::Header.demand(self.name_good(), Reason::BackingName, 8)
     }
 }
 
 // A number of the bytes behind the first four.
-fn four(rest: &[u8], at: usize) -> u32
-    requires { at + 4 ≤ length rest.now }
-    ensures value { result ≡ number rest.now at 4 }
+fn field<T: Number>(rest: &[u8], at: usize) -> T
+    requires { at + T.Number.WIDTH ≤ length rest.now }
+    ensures value { result ≡ T.Number.number rest.now at }
 {
-    u32_at(rest, at).unwrap_or(0)
-}
-
-pub(crate) fn eight(rest: &[u8], at: usize) -> u64
-    requires { at + 8 ≤ length rest.now }
-    ensures value { result ≡ number rest.now at 8 }
-{
-    u64_at(rest, at).unwrap_or(0)
+    number_at(rest, at).unwrap()
 }
 
 // A number that only version 3 has, and what stands for it in version 2.
-fn four_since_3(version: u32, rest: &[u8], at: usize, otherwise: u32) -> u32
-    requires { at + 4 ≤ length rest.now }
-    ensures value { result ≡ (if nat_eq version 3 then number rest.now at 4 else otherwise) }
+fn since_3<T: Number>(version: u32, rest: &[u8], at: usize, otherwise: T) -> T
+    requires { at + T.Number.WIDTH ≤ length rest.now }
+    ensures value { result ≡ (if nat_eq version 3 then T.Number.number rest.now at else otherwise) }
 {
     if version == 3 {
-        four(rest, at)
+        field(rest, at)
     } else {
         otherwise
     }
-}
-
-fn eight_since_3(version: u32, rest: &[u8], at: usize) -> u64
-    requires { at + 8 ≤ length rest.now }
-    ensures value { result ≡ (if nat_eq version 3 then number rest.now at 8 else 0) }
-{
-    if version == 3 { eight(rest, at) } else { 0 }
 }
 
 // The fields, from the bytes behind the first four.
@@ -171,24 +139,24 @@ fn read_fields(rest: &[u8]) -> Numbers
     requires { 508 ≤ length rest.now }
     ensures value { result ≡ fields_from 4 rest.now }
 {
-    let version = four(rest, 0);
+    let version = field(rest, 0);
     Numbers {
         version,
-        name: eight(rest, 4),
-        letters: four(rest, 12),
-        bits: four(rest, 16),
-        size: eight(rest, 20),
-        crypt: four(rest, 28),
-        entries: four(rest, 32),
-        l1: eight(rest, 36),
-        refcounts: eight(rest, 44),
-        extent: four(rest, 52),
-        snapshots: four(rest, 56),
-        records: eight(rest, 60),
-        incompatible: eight_since_3(version, rest, 68),
-        autoclear: eight_since_3(version, rest, 84),
-        order: four_since_3(version, rest, 92, 4),
-        header: four_since_3(version, rest, 96, 72),
+        name: field(rest, 4),
+        letters: field(rest, 12),
+        bits: field(rest, 16),
+        size: field(rest, 20),
+        crypt: field(rest, 28),
+        entries: field(rest, 32),
+        l1: field(rest, 36),
+        refcounts: field(rest, 44),
+        extent: field(rest, 52),
+        snapshots: field(rest, 56),
+        records: field(rest, 60),
+        incompatible: since_3(version, rest, 68, 0),
+        autoclear: since_3(version, rest, 84, 0),
+        order: since_3(version, rest, 92, 4),
+        header: since_3(version, rest, 96, 72),
     }
 }
 

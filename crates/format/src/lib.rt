@@ -1,14 +1,12 @@
-// What an image's bytes mean: the header's numbers, the tables' entries and the snapshot records, judged.
+// What an image's bytes mean: the header's numbers and the entries of its tables, judged.
 #![tactic(auto)]
 
 mod entries;
 mod files;
 mod header;
 mod numbers;
-mod records;
 
 pub use entries::{Entry, judge_l1, judge_l2};
 pub use files::filled_length;
 pub use header::{judge, judge_store};
 pub use numbers::Numbers;
-pub use records::{Head, Snapshot, judge_record};

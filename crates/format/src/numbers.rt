@@ -79,10 +79,6 @@ impl Numbers {
         ensures value { result ≡ needed self }
     {
         let span = self.cluster_size() * self.table_entries();
-        if self.size % span == 0 {
-            self.size / span
-        } else {
-            self.size / span + 1
-        }
+        self.size.div_ceil(span)
     }
 }

@@ -7,13 +7,7 @@ ghost use Rattle.guest.specs.Shown.{guest_sectors, mount_sectors, guest_clusters
 use disk::Disk;
 use fault::Fault;
 use format::{Entry, Numbers, judge_l1, judge_l2};
-use store::{Store, read_u64};
-
-const EMPTY: Entry = Entry {
-    offset: 0,
-    copied: false,
-    zero: false,
-};
+use store::{Store, read_number};
 
 // The guest's sectors; a size of 64 bits has at most 2^55.
 pub fn sectors_of(n: Numbers) -> u64
@@ -26,22 +20,14 @@ pub fn sectors_of(n: Numbers) -> u64
 pub fn mount_sectors(header: Result<Numbers, Fault>) -> u64
     ensures value { result ≡ mount_sectors header }
 {
-    match header {
-        Ok(n) => sectors_of(n),
-        Err(_) => 1 << 55,
-    }
+    header.map_or(1 << 55, sectors_of)
 }
 
 // The guest's clusters, a part one at the end among them.
 pub fn guest_clusters(n: Numbers) -> u64
     ensures value { result ≡ guest_clusters n }
 {
-    let c = n.cluster_size();
-    if n.size % c == 0 {
-        n.size / c
-    } else {
-        n.size / c + 1
-    }
+    n.size.div_ceil(n.cluster_size())
 }
 
 // Where a guest cluster's L1 and L2 entries stand.
@@ -61,10 +47,10 @@ fn entry_under<S: Store>(s: &S, n: Numbers, cluster: u64, table: Entry) -> Resul
     ensures value { result ≡ l2_under n (S.Store.bytes s.now) cluster table }
 {
     if table.offset == 0 {
-        return Ok(EMPTY);
+        return Ok(Entry::EMPTY);
     }
     let place = l2_place(n, table, cluster);
-    let word = read_u64(s, place)?;
+    let word = read_number(s, place)?;
     judge_l2(n, s.length(), place, word)
 }
 
@@ -73,7 +59,7 @@ pub fn entry_of<S: Store>(s: &S, n: Numbers, table: u64, cluster: u64) -> Result
     ensures value { result ≡ guest_entry n (S.Store.bytes s.now) table cluster }
 {
     let place = l1_place(n, table, cluster);
-    let word = read_u64(s, place)?;
+    let word = read_number(s, place)?;
     let first = judge_l1(n, s.length(), place, word)?;
     entry_under(s, n, cluster, first)
 }
@@ -105,10 +91,7 @@ pub fn read_under<B: Disk>(
         clear(out);
         return Ok(());
     }
-    match backing.read_sector(sector, out) {
-        Ok(()) => Ok(()),
-        Err(f) => Err(f.deeper()),
-    }
+    backing.read_sector(sector, out).map_err(Fault::deeper)
 }
 
 // The sector under an entry: marked zero, data, or what lies under it.

@@ -5,7 +5,7 @@ ghost use Rattle.guest.specs.Shown.{mount_reading};
 use crate::mount::Mount;
 use disk::Disk;
 use fault::{Fault, Layer, Reason};
-use guest::{read_guest, sectors_of};
+use guest::{mount_sectors, read_guest};
 use store::Store;
 
 // A mount with a bad header has all the sectors that a disk can have, and each gives the header's fault.
@@ -15,16 +15,12 @@ impl<S: Store, B: Disk> Disk for Mount<S, B> {
     fn sectors(&self) -> u64 {
         let _ = self.store.length();
         let _ = self.backing.sectors();
-        match self.header {
-            Ok(n) => sectors_of(n),
-            Err(_) => 1 << 55,
-        }
+        mount_sectors(self.header)
     }
 
     fn read_sector(&self, sector: u64, out: &mut [u8; 512]) -> Result<(), Fault> {
-        if sector >= self.sectors() {
-            return Err(Fault::new(Reason::PastDisk, Layer::Disk, sector));
-        }
+        let within = sector < self.sectors();
+        Layer::Disk.demand(within, Reason::PastDisk, sector)?;
         let n = self.header?;
         read_guest(&self.store, &self.backing, n, n.l1, sector, out)
     }

@@ -24,22 +24,15 @@ pub struct Mount<S, B> {
 pub fn judge_sector(n: Numbers, sector: u64, room: usize) -> Result<(), Fault>
     ensures value { result ≡ sector_judged n sector room }
 {
-    if room == 512 && sector < sectors_of(n) {
-        Ok(())
-    } else {
-        Err(Fault::new(Reason::Sectors, Layer::Call, sector))
-    }
+    let fits = room == 512 && sector < sectors_of(n);
+    Layer::Call.demand(fits, Reason::Sectors, sector)
 }
 
 // A list with room for as many words as a call needs.
 pub fn judge_room(room: usize, needed: u64) -> Result<(), Fault>
     ensures value { result ≡ room_judged room needed }
 {
-    if needed <= room as u64 {
-        Ok(())
-    } else {
-        Err(Fault::new(Reason::ListTooShort, Layer::Call, needed))
-    }
+    Layer::Call.demand(needed <= room as u64, Reason::ListTooShort, needed)
 }
 
 impl<S: Store, B: Disk> Mount<S, B> {

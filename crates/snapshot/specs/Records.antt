@@ -4,7 +4,8 @@
 --   rest_good    what the whole record must hold besides
 --   record_in    the record at a place of the snapshot table, or the fault at its first byte
 --   id_of        the id of a record
-use Rattle.std.specs.Prelude.{ℕ, ◌+◌, ◌-◌, ◌*◌, ◌/◌, ◌^◌, min, Bool, true, cond, ◌&&◌, ◌||◌, List, [], ◌∷◌, length, take, Ok, Err, Result, ◌==◌, nat_le}
+use Rattle.std.specs.Prelude.{ℕ, ◌+◌, ◌-◌, ◌*◌, ◌/◌, ◌^◌, min, Bool, cond, ◌&&◌, ◌||◌, List, length, take, Ok, Err, Result, ◌==◌, nat_le}
+use Rattle.std.specs.List.{list_all}
 use Rattle.fault.specs.declared.Fault.{Fault}
 use Rattle.fault.specs.declared.Layer.TheVariants.{Tables}
 use Rattle.fault.specs.declared.Reason.TheVariants.{BadEntry}
@@ -45,8 +46,7 @@ abbrev pub extra_says : Numbers → Head → List ℕ → Bool
 extra_says n h r = h.extra == 0 || (number r 40 8 == 0 && number r 48 8 == n.size)
 
 abbrev pub all_zero : List ℕ → Bool
-all_zero [] = true
-all_zero (b ∷ bs) = b == 0 && all_zero bs
+all_zero = list_all (λ b. b == 0)
 
 abbrev pub rest_good : Numbers → Head → List ℕ → Bool
 rest_good n h r = extra_says n h r && all_zero (run r (body h) (size h - body h))

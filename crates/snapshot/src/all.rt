@@ -5,34 +5,21 @@ ghost use Rattle.snapshot.specs.Records.{id_of, record_good};
 ghost use Rattle.snapshot.specs.All.{position, named as named_by, kept as kept_of, records as records_of, id_judged, table};
 
 use crate::records::{Snapshot, judge_record};
+use arrayvec::ArrayVec;
 use fault::{Fault, Layer, Reason};
 use format::Numbers;
 use store::Store;
 
-// What stands in the list behind its records.
-const NONE: Snapshot = Snapshot {
-    place: 0,
-    size: 0,
-    l1: 0,
-    extra: 0,
-    name: 0,
-    id: [0; 16],
-    letters: 0,
-};
-
-// The records, as many as `count` says, from the front of the list; an image has at most 64.
-#[derive(Clone, Copy)]
+// The records in their order; an image has at most 64.
+#[derive(Drop)]
 pub struct Records {
-    pub list: [Snapshot; 64],
-    pub count: usize,
+    list: ArrayVec<Snapshot, 64>,
 }
 
 fn same_id(id: &[u8], r: &Snapshot) -> bool
     ensures value { result ≡ bytes_eq id.now (id_of r.now) }
 {
-    let n = (r.letters as usize).min(16);
-    let other = &r.id[0..n];
-    id == other
+    id == r.id()
 }
 
 impl Records {
@@ -40,7 +27,7 @@ impl Records {
         ensures value { result.now ≡ kept_of self.now }
         ensures few { length result.now ≤ 64 }
     {
-        &self.list[0..self.count.min(64)]
+        self.list.as_slice()
     }
 
     // Where the first record with this id stands.
@@ -48,13 +35,7 @@ impl Records {
         ensures value { result ≡ position id.now (kept_of self.now) 0 }
         ensures within { IfSome result (λ i. i < length (kept_of self.now)) }
     {
-        let kept = self.kept();
-        for i in 0..kept.len() {
-            if same_id(id, &kept[i]) {
-                return Some(i);
-            }
-        }
-        None
+        self.kept().iter().position(|r| same_id(id, r))
     }
 
     // The record with this id.
@@ -67,25 +48,12 @@ impl Records {
         }
     }
 
-    // One record more.
-    fn push(&mut self, r: Snapshot)
-        requires { self.old.count < 64 }
-        ensures kept { kept_of self.new ≡ kept_of self.old ++ r ∷ [] }
-        ensures count { self.new.count ≡ self.old.count + 1 }
-    {
-        self.list[self.count] = r;
-        self.count += 1;
-    }
-
     // A record is bad if an earlier one has its id.
     fn judge_id(&self, r: &Snapshot) -> Result<(), Fault>
         ensures value { result ≡ record_good (not (is_some (position (id_of r.now) (kept_of self.now) 0))) r.now.place }
     {
-        let n = (r.letters as usize).min(16);
-        match self.find(&r.id[0..n]) {
-            None => Ok(()),
-            Some(_) => Err(Fault::new(Reason::BadEntry, Layer::Tables, r.place)),
-        }
+        let new = self.find(r.id()).is_none();
+        Layer::Tables.demand(new, Reason::BadEntry, r.place)
     }
 }
 
@@ -94,14 +62,13 @@ pub fn judge_records<S: Store>(s: &S, n: Numbers) -> Result<Records, Fault>
     ensures value { MatchResult result (λ all. records_of n (S.Store.bytes s.now) ≡ Ok (kept_of all)) (λ e. records_of n (S.Store.bytes s.now) ≡ Err e) }
 {
     let mut all = Records {
-        list: [NONE; 64],
-        count: 0,
+        list: ArrayVec::new(),
     };
     let mut at = 0;
     for i in 0..n.snapshots.min(64) {
         let r = judge_record(s, n, at)?;
         all.judge_id(&r)?;
-        all.push(r);
+        all.list.push(r);
         at += r.size;
     }
     Ok(all)
@@ -111,11 +78,8 @@ pub fn judge_records<S: Store>(s: &S, n: Numbers) -> Result<Records, Fault>
 pub fn judge_id(id: &[u8]) -> Result<(), Fault>
     ensures value { result ≡ id_judged id.now }
 {
-    if 1 <= id.len() && id.len() <= 16 {
-        Ok(())
-    } else {
-        Err(Fault::new(Reason::BadId, Layer::Call, 0))
-    }
+    let fits = 1 <= id.len() && id.len() <= 16;
+    Layer::Call.demand(fits, Reason::BadId, 0)
 }
 
 // The L1 table of the snapshot with this id, once all records are judged.

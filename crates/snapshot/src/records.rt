@@ -4,9 +4,9 @@ ghost use Rattle.fault.specs.Outcomes.{Tells};
 ghost use Rattle.format.specs.Clusters.{cluster};
 ghost use Rattle.byte_lists.specs.Runs.{run, grow};
 ghost use Rattle.byte_lists.specs.Numbers.{number};
-ghost use Rattle.snapshot.specs.Records.{head_of, body, size as size_of, extra_good, sizes_good, head_good, extra_says, all_zero, rest_good, record_good, head_in, rest_in, record_place, record_in};
+ghost use Rattle.snapshot.specs.Records.{head_of, body, size as size_of, extra_good, sizes_good, head_good, extra_says, all_zero, rest_good, head_in, rest_in, record_place, record_in, id_of};
 
-use byte_lists::{u16_at, u32_at, u64_at, within};
+use byte_lists::{number_at, within};
 use fault::{Fault, Layer, Reason};
 use format::Numbers;
 use store::Store;
@@ -23,7 +23,7 @@ pub struct Head {
 }
 
 // A good record: where it begins and its bytes, its L1 table, its id, and what says where its name lies.
-#[derive(Clone, Copy, PartialEq, Eq, Debug)]
+#[derive(Clone, Copy, Default, PartialEq, Eq, Debug)]
 pub struct Snapshot {
     pub place: u64,
     pub size: u64,
@@ -36,13 +36,12 @@ pub struct Snapshot {
     pub letters: u16,
 }
 
-fn record_good_or(test: bool, place: u64) -> Result<(), Fault>
-    ensures value { result ≡ record_good test place }
-{
-    if test {
-        Ok(())
-    } else {
-        Err(Fault::new(Reason::BadEntry, Layer::Tables, place))
+impl Snapshot {
+    // The bytes of its id.
+    pub fn id(&self) -> &[u8]
+        ensures value { result.now ≡ id_of self.now }
+    {
+        &self.id[0..(self.letters as usize).min(16)]
     }
 }
 
@@ -50,12 +49,12 @@ fn read_head(r: &[u8; 40]) -> Head
     ensures value { result ≡ head_of r.now }
 {
     Head {
-        l1: u64_at(r, 0).unwrap_or(0),
-        entries: u32_at(r, 8).unwrap_or(0),
-        id: u16_at(r, 12).unwrap_or(0),
-        name: u16_at(r, 14).unwrap_or(0),
-        state: u32_at(r, 32).unwrap_or(0),
-        extra: u32_at(r, 36).unwrap_or(0),
+        l1: number_at(r, 0).unwrap(),
+        entries: number_at(r, 8).unwrap(),
+        id: number_at(r, 12).unwrap(),
+        name: number_at(r, 14).unwrap(),
+        state: number_at(r, 32).unwrap(),
+        extra: number_at(r, 36).unwrap(),
     }
 }
 
@@ -94,30 +93,19 @@ impl Head {
     }
 }
 
-fn is_zero(list: &[u8]) -> bool
-    ensures value { result ≡ all_zero list.now }
-{
-    for b in list {
-        if *b != 0 {
-            return false;
-        }
-    }
-    true
-}
-
 // No machine state, and the header's guest size.
 fn extra_fits(n: Numbers, r: &[u8]) -> bool
     requires { 56 ≤ length r.now }
     ensures value { result ≡ (number r.now 40 8 == 0 && number r.now 48 8 == n.size) }
 {
-    u64_at(r, 40).unwrap_or(0) == 0 && u64_at(r, 48).unwrap_or(0) == n.size
+    number_at::<u64>(r, 40) == Some(0) && number_at(r, 48) == Some(n.size)
 }
 
 fn padding_zero(r: &[u8], body: usize) -> bool
     requires { body ≤ length r.now }
     ensures value { result ≡ all_zero (run r.now body (length r.now - body)) }
 {
-    is_zero(&r[body..r.len()])
+    r[body..r.len()].iter().all(|b| *b == 0)
 }
 
 impl Head {
@@ -144,12 +132,16 @@ fn head_at<S: Store>(s: &S, n: Numbers, place: u64, at: u64) -> Result<Head, Fau
     ensures value { result ≡ head_in n (S.Store.bytes s.now) place at }
     ensures sizes { IfOk result (λ h. (size_of h ≤ 1144) × (extra_good n h ≡ true) × (h.id ≤ 16) × (at + size_of h ≤ cluster n)) }
 {
-    record_good_or(within(at, 40, n.cluster_size()), place)?;
+    Layer::Tables.demand(within(at, 40, n.cluster_size()), Reason::BadEntry, place)?;
     let mut bytes = [0u8; 40];
     s.read(place, &mut bytes)?;
     let h = read_head(&bytes);
-    record_good_or(h.head_good(n, s.length()), place)?;
-    record_good_or(within(at, h.size(), n.cluster_size()), place)?;
+    Layer::Tables.demand(h.head_good(n, s.length()), Reason::BadEntry, place)?;
+    Layer::Tables.demand(
+        within(at, h.size(), n.cluster_size()),
+        Reason::BadEntry,
+        place,
+    )?;
     Ok(h)
 }
 
@@ -160,7 +152,7 @@ fn rest_at<S: Store>(s: &S, n: Numbers, place: u64, h: Head, room: &mut [u8]) ->
     ensures value { Tells result (rest_in n (S.Store.bytes s.now) place h) room.new }
 {
     s.read(place, room)?;
-    record_good_or(h.rest_good(n, room), place)
+    Layer::Tables.demand(h.rest_good(n, room), Reason::BadEntry, place)
 }
 
 // An id of some bytes in a record, filled up with zeros.

@@ -5,7 +5,7 @@ ghost use Rattle.tables.specs.Refcounts.{per_block, blocks as blocks_of, block_p
 use byte_lists::within;
 use fault::{Fault, Layer, Reason};
 use format::Numbers;
-use store::{Store, read_u16, read_u64};
+use store::{Store, read_number};
 
 // The counts of a block.
 pub fn block_counts(n: Numbers) -> u64
@@ -29,11 +29,9 @@ pub fn judge_block(n: Numbers, length: u64, place: u64, word: u64) -> Result<u64
     ensures value { result ≡ block_entry n length place word }
 {
     let c = n.cluster_size();
-    if word == 0 || (word % c == 0 && within(word, c, length)) {
-        Ok(word)
-    } else {
-        Err(Fault::new(Reason::BadEntry, Layer::Tables, place))
-    }
+    let placed = word == 0 || (word % c == 0 && within(word, c, length));
+    Layer::Tables.demand(placed, Reason::BadEntry, place)?;
+    Ok(word)
 }
 
 // Where the entry of a block stands.
@@ -48,7 +46,7 @@ pub fn block_at<S: Store>(s: &S, n: Numbers, block: u64) -> Result<u64, Fault>
     ensures value { result ≡ block_at n (S.Store.bytes s.now) block }
 {
     if block < blocks(n) {
-        read_u64(s, block_place(n, block))
+        read_number(s, block_place(n, block))
     } else {
         Ok(0)
     }
@@ -62,7 +60,7 @@ pub fn count_in<S: Store>(s: &S, n: Numbers, host: u64) -> Result<u16, Fault>
     if block == 0 {
         return Ok(0);
     }
-    read_u16(s, block.saturating_add(host % block_counts(n) * 2))
+    read_number(s, block.saturating_add(host % block_counts(n) * 2))
 }
 
 // The same where nothing refuses, as in a table that was judged good.

@@ -28,9 +28,9 @@ loop-i-preserved g c =
     let bs = g.S.Store.bytes c.args.s.now in
     let lt : c.loop-i.i < many n = omega arith in
     let r = c.in_ok-r.r in (
-      c.push.ensures.count ∙ ap (λ k. k + 1) c.loop-i.invariant.0,
+      c.push.ensures.len ∙ ap (λ k. k + 1) c.loop-i.invariant.0,
       c.in_ok-r.ensures.ends,
-      ap (records_from n bs (many n - (c.loop-i.i + 1)) (c.loop-i.at + r.size)) c.push.ensures.kept
+      ap (records_from n bs (many n - (c.loop-i.i + 1)) (c.loop-i.at + r.size)) c.push.ensures.items
           ∙ sym (one_more n bs (many n) c.loop-i.i c.loop-i.at (kept c.loop-i.all) lt r c.in_ok-r.ensures.value _ c.in_ok-judge_id.ensures.value)
           ∙ c.loop-i.invariant.2,
     )
