@@ -6,22 +6,12 @@ ghost use Rattle.fault.specs.Outcomes.{Gives};
 ghost use Rattle.format.specs.Clusters.{cluster};
 ghost use Rattle.format.specs.Header.{header as header_in, needed};
 ghost use Rattle.create.specs.Laid.{laid, laid_field};
-ghost use Rattle.create.specs.Create.{wanted as wanted_of, header_length, name_place, asked, name_fits, room, create_judged, shared_fields, late_fields, header_fields, table_fields, created, create_outcome};
+ghost use Rattle.create.specs.Create.{wanted as wanted_of, header_length, name_place, name_fits, room, create_judged, shared_fields, late_fields, header_fields, table_fields, created, create_outcome};
 
 use byte_lists::Field;
 use fault::{Fault, Layer, Reason};
 use format::Numbers;
 use store::Store;
-
-fn ask(test: bool, reason: Reason, place: u64) -> Result<(), Fault>
-    ensures value { result ≡ asked test reason place }
-{
-    if test {
-        Ok(())
-    } else {
-        Err(Fault::new(reason, Layer::Call, place))
-    }
-}
 
 // Writes a number in its place; one that passes the store's end is left out.
 fn lay_field<S: Store>(s: &mut S, f: Field)
@@ -201,17 +191,13 @@ fn name_place(version: u32, letters: u32) -> u64
 fn judge_wish(probe: Numbers, letters: usize, length: u64, limit: u64) -> Result<(), Fault>
     ensures value { result ≡ create_judged (wanted_of probe.version probe.bits probe.size letters) length limit }
 {
-    ask(probe.version_good(), Reason::Version, 4)?;
-    ask(probe.bits_good(), Reason::ClusterBits, 20)?;
-    ask(probe.size_good(), Reason::GuestSize, 24)?;
-    ask(name_fits(probe, letters), Reason::NameTooLong, 0)?;
-    ask(length == 0, Reason::NotEmpty, length)?;
+    Layer::Call.demand(probe.version_good(), Reason::Version, 4)?;
+    Layer::Call.demand(probe.bits_good(), Reason::ClusterBits, 20)?;
+    Layer::Call.demand(probe.size_good(), Reason::GuestSize, 24)?;
+    Layer::Call.demand(name_fits(probe, letters), Reason::NameTooLong, 0)?;
+    Layer::Call.demand(length == 0, Reason::NotEmpty, length)?;
     let c = probe.cluster_size();
-    if 4 * c <= limit {
-        Ok(())
-    } else {
-        Err(Fault::new(Reason::NoRoom, Layer::Store, limit / c))
-    }
+    Layer::Store.demand(4 * c <= limit, Reason::NoRoom, limit / c)
 }
 
 // The numbers of the image, from a probe that was judged good.
