@@ -4,16 +4,16 @@ use Rattle.format.specs.declared.numbers.Numbers.{Numbers}
 use Rattle.tables.specs.Refcounts.{count}
 use Rattle.tally.specs.Words.{kind_in, mark_in}
 use Rattle.image_check.specs.Totals.{sum, sum_by, one, leaks, lacks, repeats}
-use Rattle.image_check.proofs.Sums.{sum_more, sum_none}
+use Rattle.image_check.proofs.Sums.{sum_more, sum_none, one_most}
 
 -- what was found up to a place and what is left give the whole
 abbrev pub Left : (ℕ → ℕ → Bool) → List ℕ → ℕ → ℕ → Type 0
 Left f words found i = (found + sum (λ h. one (f h (get_or words h 0))) i (length words - i) ≡ sum_by f words (length words)) × (found ≤ i)
 
-pub left_more : (f : ℕ → ℕ → Bool) (words : List ℕ) (found i x : ℕ) → i < length words → x ≡ one (f i (get_or words i 0)) → x ≤ 1 → Left f words found i → Left f words (found + x) (i + 1)
-left_more f words found i x lt e most inv =
+pub left_more : (f : ℕ → ℕ → Bool) (words : List ℕ) (found i x : ℕ) → i < length words → x ≡ one (f i (get_or words i 0)) → Left f words found i → Left f words (found + x) (i + 1)
+left_more f words found i x lt e inv =
     let more = sum_more (λ h. one (f h (get_or words h 0))) i (length words) lt in
-    (omega (arith, more, e, inv.0), omega (arith, inv.1))
+    (omega (arith, more, e, inv.0), omega (arith, e, one_most (f i (get_or words i 0)), inv.1))
 
 pub left_none : (f : ℕ → ℕ → Bool) (words : List ℕ) (found i : ℕ) → length words ≤ i → Left f words found i → found ≡ sum_by f words (length words)
 left_none f words found i le inv = omega (arith, sum_none (λ h. one (f h (get_or words h 0))) i (length words) le, inv.0)

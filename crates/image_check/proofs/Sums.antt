@@ -1,5 +1,6 @@
 -- Sums of numbers in a row. Assumes nothing.
 use Rattle.std.proofs.Common.{◌≡◌, ℕ, zero, suc, ◌+◌, ◌-◌, ◌<◌, ◌≤◌, Bool, true, false, refl, ap, ◌∙◌, inl, inr, arith}
+use Rattle.std.specs.Int.{from_bool}
 use Rattle.std.proofs.lemmas.Bool.{cases_eq}
 use Rattle.image_check.specs.Totals.{sum, one}
 
@@ -34,3 +35,12 @@ one_zero false e = refl
 
 pub zero_one : (b : Bool) → b ≡ false → one b ≡ 0
 zero_one b e = ap one e
+
+-- a test as a number
+pub one_is : (x : ℕ) (b c : Bool) → x ≡ from_bool b → b ≡ c → x ≡ one c
+one_is x true c e is = e ∙ ap one is
+one_is x false c e is = e ∙ ap one is
+
+pub one_most : (b : Bool) → one b ≤ 1
+one_most true = omega arith
+one_most false = omega arith

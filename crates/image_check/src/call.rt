@@ -26,8 +26,8 @@ use walk::walk;
 fn unmark_all(words: &mut [u32])
     ensures after { words.new ≡ map unmarked words.old }
 {
-    for i in 0..words.len() {
-        words[i] = unmark(words[i]);
+    for w in words.iter_mut() {
+        *w = unmark(*w);
     }
 }
 
@@ -61,7 +61,7 @@ fn count_up<S: Store>(
 fn all_zero(t: (u64, u64, u64, u64, u64)) -> bool
     ensures value { result ≡ found_clean t }
 {
-    t.0 == 0 && t.1 == 0 && t.2 == 0 && t.3 == 0 && t.4 == 0
+    t == (0, 0, 0, 0, 0)
 }
 
 fn check_and_mark<S: Store, B: Disk>(

@@ -23,7 +23,7 @@ fn wrong_in<S: Store>(s: &S, n: Numbers, l2: u64, g: u64) -> u64
     ensures most { result ≤ 1 }
 {
     match l2_at(s, n, l2, g) {
-        Ok(e) => { if wrong(s, n, e) { 1 } else { 0 } }
+        Ok(e) => u64::from(wrong(s, n, e)),
         Err(_) => 0,
     }
 }
@@ -52,8 +52,7 @@ fn branch_wrong<S: Store>(s: &S, n: Numbers, i: u64) -> u64
     if e.offset == 0 {
         return 0;
     }
-    let own = if wrong(s, n, e) { 1 } else { 0 };
-    own + l2_wrong(s, n, e.offset, i * n.table_entries())
+    u64::from(wrong(s, n, e)) + l2_wrong(s, n, e.offset, i * n.table_entries())
 }
 
 // By path: a table that two live entries name has its entries judged twice.

@@ -10,13 +10,6 @@ use store::{Store, read_u16};
 use tables::{block_counts, blocks};
 use walk::block_at;
 
-pub(crate) fn one_if(test: bool) -> u64
-    ensures value { result ≡ one test }
-    ensures most { result ≤ 1 }
-{
-    if test { 1 } else { 0 }
-}
-
 // The host clusters of a store.
 pub(crate) fn clusters<S: Store>(s: &S, n: Numbers) -> u64
     ensures value { result ≡ clusters_of n (S.Store.bytes s.now) }
@@ -43,7 +36,7 @@ fn past_in<S: Store>(s: &S, n: Numbers, i: u64, block: u64) -> u64
 {
     let mut found: u64 = 0;
     for j in 0..block_counts(n) {
-        found += one_if(past(s, n, i, block, j));
+        found += u64::from(past(s, n, i, block, j));
     }
     found
 }

@@ -4,14 +4,13 @@ ghost use Rattle.tables.specs.Refcounts.{count as count_of};
 ghost use Rattle.tally.specs.Words.{kind_in, mark_in};
 ghost use Rattle.image_check.specs.Totals.{one, sum_by, leaks, lacks, repeats};
 
-use crate::past::one_if;
 use format::Numbers;
 use store::Store;
 use tables::count;
-use tally::{kind_of, references_of, repeated};
+use tally::{Used, kind_of, references_of, repeated};
 
 // What the words of the store's clusters add up to.
-#[derive(Clone, Copy)]
+#[derive(Clone, Copy, Default)]
 pub(crate) struct Found {
     pub(crate) leaked: u64,
     pub(crate) short: u64,
@@ -22,8 +21,17 @@ pub(crate) struct Found {
 fn repeats_by(w: u32) -> bool
     ensures value { result ≡ repeats (kind_in (w / 2 ^ 28)) (w % 2 ^ 28) (mark_in (w / 2 ^ 28) == 2) }
 {
-    let kind = kind_of(w);
-    repeated(w) || (1 <= kind && kind <= 6 && 2 <= references_of(w))
+    let table = match kind_of(w) {
+        Used::As(kind) => !kind.in_tree(),
+        Used::Free | Used::Several => false,
+    };
+    repeated(w) || (table && 2 <= references_of(w))
+}
+
+fn mixed_by(w: u32) -> bool
+    ensures value { result ≡ nat_eq (kind_in (w / 2 ^ 28)) 15 }
+{
+    kind_of(w) == Used::Several
 }
 
 pub(crate) fn totals<S: Store>(s: &S, n: Numbers, words: &[u32]) -> Found
@@ -34,19 +42,14 @@ pub(crate) fn totals<S: Store>(s: &S, n: Numbers, words: &[u32]) -> Found
     ensures repeated { result.repeated ≡ sum_by (λ h w. repeats (kind_in (w / 2 ^ 28)) (w % 2 ^ 28) (mark_in (w / 2 ^ 28) == 2)) words.now (length words.now) }
     ensures most { result.leaked ≤ 2 ^ 56 }
 {
-    let mut found = Found {
-        leaked: 0,
-        short: 0,
-        mixed: 0,
-        repeated: 0,
-    };
+    let mut found = Found::default();
     for (h, w) in words.iter().enumerate() {
         let counted = count(s, n, h as u64) as u32;
         let references = references_of(*w);
-        found.leaked += one_if(references < counted);
-        found.short += one_if(counted < references);
-        found.mixed += one_if(kind_of(*w) == 15);
-        found.repeated += one_if(repeats_by(*w));
+        found.leaked += u64::from(references < counted);
+        found.short += u64::from(counted < references);
+        found.mixed += u64::from(mixed_by(*w));
+        found.repeated += u64::from(repeats_by(*w));
     }
     found
 }

@@ -5,6 +5,7 @@ ghost use Rattle.image.specs.Honest.{Honest};
 ghost use Rattle.mapping.specs.Maps.{map_outcome};
 ghost use Rattle.mapping.specs.Copies.{word_shows, copy_outcome, shown_outcome};
 
+use crate::word::Word;
 use disk::Disk;
 use fault::Fault;
 use format::Numbers;
@@ -22,16 +23,17 @@ fn read_by_word<S: Store, B: Disk>(
 ) -> Result<(), Fault>
     ensures outcome { Gives result (word_shows n (S.Store.bytes s.now) (B.Disk.reading backing.now) word sector) out.old out.new }
 {
-    let state = word / (1 << 30);
-    if state == 0 {
-        return read_under(n, backing, sector, out);
+    match Word::from(word) {
+        Word::Empty => read_under(n, backing, sector, out),
+        Word::Zeros => {
+            clear(out);
+            Ok(())
+        }
+        Word::Data(host) => {
+            let first = host * n.cluster_size();
+            s.read(first + sector % n.cluster_sectors() * 512, out)
+        }
     }
-    if state == 1 {
-        clear(out);
-        return Ok(());
-    }
-    let first = (word % (1 << 30)) as u64 * n.cluster_size();
-    s.read(first + sector % n.cluster_sectors() * 512, out)
 }
 
 // The sector that a guest cluster's word leads to.

@@ -3,6 +3,7 @@
 
 mod copies;
 mod maps;
+mod word;
 
 pub use copies::copy_out;
 pub use maps::map;

@@ -1,9 +1,11 @@
 // The map: a word for each guest cluster, so that a reader need not walk the tables.
 ghost use Rattle.std.specs.Prelude.{◌≡◌, length};
 ghost use Rattle.fault.specs.Outcomes.{each, Gives};
+ghost use Rattle.mapping.specs.Words.{word_number};
 ghost use Rattle.mapping.specs.Maps.{word_of, word_in, words_of, map_id_judged, table_for, map_outcome};
 ghost use Rattle.guest.specs.Shown.{guest_entry};
 
+use crate::word::Word;
 use disk::Disk;
 use fault::{Fault, Layer, Reason};
 use format::{Entry, Numbers};
@@ -12,39 +14,33 @@ use image::{Mount, judge_room};
 use snapshot::table_of;
 use store::Store;
 
-const ZEROS: u32 = 1 << 30;
-
-const DATA: u32 = 1 << 31;
-
-fn word_of(n: Numbers, e: Entry) -> u32
-    ensures value { result ≡ word_of n e }
+fn word_of(n: Numbers, e: Entry) -> Word
+    ensures value { word_number result ≡ word_of n e }
 {
     if e.zero {
-        return ZEROS;
+        return Word::Zeros;
     }
     if e.offset == 0 {
-        return 0;
+        return Word::Empty;
     }
-    // a good image has fewer than 2^30 clusters
-    let host = (e.offset / n.cluster_size()).min((1 << 30) - 1);
-    DATA + host as u32
+    Word::Data(e.offset / n.cluster_size())
 }
 
 // The word of a guest cluster whose entry was judged good.
-fn word_at<S: Store>(s: &S, n: Numbers, l1: u64, cluster: u64) -> u32
-    ensures value { result ≡ word_in n (guest_entry n (S.Store.bytes s.now) l1 cluster) }
+fn word_at<S: Store>(s: &S, n: Numbers, l1: u64, cluster: u64) -> Word
+    ensures value { word_number result ≡ word_in n (guest_entry n (S.Store.bytes s.now) l1 cluster) }
 {
     match entry_of(s, n, l1, cluster) {
         Ok(e) => word_of(n, e),
-        Err(_) => 0,
+        Err(_) => Word::Empty,
     }
 }
 
 fn fill_words<S: Store>(s: &S, n: Numbers, l1: u64, words: &mut [u32])
     ensures after { words.new ≡ words_of n (S.Store.bytes s.now) l1 (length words.old) }
 {
-    for i in 0..words.len() {
-        words[i] = word_at(s, n, l1, i as u64);
+    for (g, w) in words.iter_mut().enumerate() {
+        *w = u32::from(word_at(s, n, l1, g as u64));
     }
 }
 
@@ -71,7 +67,7 @@ fn judge_map_id(id: &[u8]) -> Result<(), Fault>
 fn table_for<S: Store>(s: &S, n: Numbers, id: &[u8]) -> Result<u64, Fault>
     ensures value { result ≡ table_for n (S.Store.bytes s.now) id.now }
 {
-    if id.len() == 0 {
+    if id.is_empty() {
         return Ok(n.l1);
     }
     table_of(s, n, id)

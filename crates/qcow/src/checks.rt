@@ -8,36 +8,19 @@ use layers::{Stop, load_alone};
 use std::io;
 use std::io::{BufWriter, IsTerminal, Write};
 use store::Store;
+use tally::{kind_of, references_of};
 
 pub(crate) const USAGE: &str = "qcow check [--tally] FILE";
 
 // More host clusters than this take a while.
 const MANY: u64 = 1 << 20;
 
-// The name of the kind that a tally word has in its upper four bits.
-fn kind_name(word: u32) -> &'static str {
-    match word / (1 << 28) {
-        0 => "free",
-        1 => "header",
-        2 => "refcount table",
-        3 => "refcount block",
-        4 => "L1 table",
-        5 => "snapshot table",
-        6 => "snapshot L1 table",
-        7 => "L2 table",
-        8 => "data",
-        15 => "several",
-        _ => "unknown",
-    }
-}
-
 // A line for each host cluster: its index, its references and its kind.
 fn print_tally(rt: &HostRuntime, words: &[u32]) -> io::Result<()> {
     let mut out = BufWriter::new(rt.alloc(), rt.stdout())?;
-    for i in 0..words.len() {
-        let word = words[i];
-        let kind = kind_name(word);
-        let references = word % (1 << 28);
+    for (i, word) in words.iter().enumerate() {
+        let kind = kind_of(*word);
+        let references = references_of(*word);
         writeln!(out, "{i} {references} {kind}")?;
     }
     out.flush()

@@ -1,3 +1,4 @@
 pub mod Words
 pub mod Tally
 pub mod Filling
+pub mod Uses

@@ -28,7 +28,7 @@ fn touch_host(pass: Pass, kind: Kind, host: u64, words: &mut [u32])
     }
     let w = words[host as usize];
     words[host as usize] = match pass {
-        Pass::Note => note(w, kind.number()),
+        Pass::Note => note(w, kind),
         Pass::Forget => forget(w),
     };
 }

@@ -2,7 +2,9 @@
 #![tactic(auto)]
 
 mod filling;
+mod uses;
 mod words;
 
 pub use filling::fill;
+pub use uses::Used;
 pub use words::{kind_of, references_of, repeated, unmark};
