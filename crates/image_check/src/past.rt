@@ -6,7 +6,7 @@ ghost use Rattle.walk.specs.References.{block_at};
 ghost use Rattle.image_check.specs.Totals.{clusters_of, past as past_by, past_in, leaked_past, one, sum};
 
 use format::Numbers;
-use store::{Store, read_u16};
+use store::{Store, read_number};
 use tables::{block_counts, blocks};
 use walk::block_at;
 
@@ -26,7 +26,7 @@ fn past<S: Store>(s: &S, n: Numbers, i: u64, block: u64, j: u64) -> bool
     ensures value { result ≡ past_by n (S.Store.bytes s.now) i block j }
 {
     clusters(s, n) <= i * block_counts(n) + j
-        && read_u16(s, block.saturating_add(j * 2)).unwrap_or(0) != 0
+        && read_number::<u16, S>(s, block.saturating_add(j * 2)).unwrap_or(0) != 0
 }
 
 fn past_in<S: Store>(s: &S, n: Numbers, i: u64, block: u64) -> u64

@@ -57,11 +57,7 @@ fn judge_entries<S: Store>(s: &S, n: Numbers, l1: u64, clusters: u64) -> Result<
 fn judge_map_id(id: &[u8]) -> Result<(), Fault>
     ensures value { result ≡ map_id_judged id.now }
 {
-    if id.len() <= 16 {
-        Ok(())
-    } else {
-        Err(Fault::new(Reason::BadId, Layer::Call, 0))
-    }
+    Layer::Call.demand(id.len() <= 16, Reason::BadId, 0)
 }
 
 fn table_for<S: Store>(s: &S, n: Numbers, id: &[u8]) -> Result<u64, Fault>

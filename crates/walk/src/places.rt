@@ -6,14 +6,8 @@ ghost use Rattle.walk.specs.References.{l1_at, l2_judged_at, l2_at, block_at, en
 use fault::{Fault, Layer, Reason};
 use format::{Entry, Numbers, judge_l1, judge_l2};
 use guest::guest_clusters;
-use store::{Store, read_u64};
+use store::{Store, read_number};
 use tables::{block_place, judge_block};
-
-const EMPTY: Entry = Entry {
-    offset: 0,
-    copied: false,
-    zero: false,
-};
 
 // The entries of an L1 table that count; a good header has no more than fill a cluster.
 pub fn l1_entries(n: Numbers) -> u64
@@ -34,7 +28,7 @@ pub fn l1_at<S: Store>(s: &S, n: Numbers, l1: u64, i: u64) -> Result<Entry, Faul
     ensures value { result ≡ l1_at n (S.Store.bytes s.now) l1 i }
 {
     let place = entry_place(l1, i);
-    let word = read_u64(s, place)?;
+    let word = read_number(s, place)?;
     judge_l1(n, s.length(), place, word)
 }
 
@@ -55,7 +49,7 @@ fn judge_walked(
         return Err(Fault::new(Reason::Compressed, Layer::Tables, place));
     }
     if word == 0 {
-        Ok(EMPTY)
+        Ok(Entry::EMPTY)
     } else {
         Err(Fault::new(Reason::BadEntry, Layer::Tables, place))
     }
@@ -65,7 +59,7 @@ pub fn l2_at<S: Store>(s: &S, n: Numbers, l2: u64, cluster: u64) -> Result<Entry
     ensures value { result ≡ l2_at n (S.Store.bytes s.now) l2 cluster }
 {
     let place = entry_place(l2, cluster % n.table_entries());
-    let word = read_u64(s, place)?;
+    let word = read_number(s, place)?;
     judge_walked(n, s.length(), place, cluster, word)
 }
 
@@ -73,6 +67,6 @@ pub fn block_at<S: Store>(s: &S, n: Numbers, i: u64) -> Result<u64, Fault>
     ensures value { result ≡ block_at n (S.Store.bytes s.now) i }
 {
     let place = block_place(n, i);
-    let word = read_u64(s, place)?;
+    let word = read_number(s, place)?;
     judge_block(n, s.length(), place, word)
 }
