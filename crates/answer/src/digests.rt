@@ -6,9 +6,7 @@ ghost use Rattle.answer.specs.Digest.{digest as digest_of};
 pub(crate) fn digest(bytes: &[u8]) -> u64
     ensures value { result ≡ digest_of bytes.now }
 {
-    let mut h: u64 = 0xcbf2_9ce4_8422_2325;
-    for b in bytes {
-        h = (h ^ u64::from(*b)).wrapping_mul(0x0000_0100_0000_01b3);
-    }
-    h
+    bytes.iter().fold(0xcbf2_9ce4_8422_2325, |h, b| {
+        (h ^ u64::from(*b)).wrapping_mul(0x0000_0100_0000_01b3)
+    })
 }

@@ -10,7 +10,7 @@ use chain::{Chain, Layer};
 use disk::RescuedDisk;
 use fault::Fault;
 use format::{filled_length, judge_store};
-use listing::{Spoiled, spoiled_in};
+use listing::{BadList, spoiled_in};
 use memory::MemoryStore;
 use std::alloc::{AllocError, Global};
 use std::fs;
@@ -101,11 +101,10 @@ fn load_spoiled(rt: &HostRuntime, path: &str) -> Result<Vec<u64>, Stop> {
         Ok(text) => text,
         Err(e) => return Err(failed(heap, path, e)),
     };
-    match spoiled_in(heap, text.as_str())? {
-        Spoiled::Sectors(list) => Ok(list),
-        Spoiled::BadLine(n) => Err(Stop::Said(format!(in heap;
-            "{path}: line {n} is no sector number"
-        )?)),
+    match spoiled_in(heap, text.as_str()) {
+        Ok(list) => Ok(list),
+        Err(BadList::OutOfMemory) => Err(Stop::Memory),
+        Err(e) => Err(Stop::Said(format!(in heap; "{path}: {e}")?)),
     }
 }
 

@@ -1,6 +1,7 @@
 -- Lists of spoiled sectors as text. Assumes nothing.
 --   Listed     what a text lists: sectors, or else its first bad line, from 1 on
---   listed_as  what the code's answer means
+--   listed_as  what the code's answer means; nothing if there was no memory
+--   words      the words of a refusal
 --   said       what a line says without its comment
 --   number     a decimal number of at most 64 bits, where a plus may stand first
 --   entry      the number that a word spells, or that it says nothing; none if it is bad
@@ -8,22 +9,28 @@
 --   or_bad     what comes after a line, from what it says; or that it is bad, with its number from 1 on
 --   listed_on  what numbered lines list after sectors
 --   listed     what a text lists
-use Rattle.std.specs.Prelude.{ℕ, ◌+◌, ◌^◌, cond, ◌&&◌, ◌==◌, List, [], ◌∷◌, ◌++◌, length, Option, Some, None, nat_lt, vec_items}
+use Rattle.std.specs.Prelude.{ℕ, ◌+◌, ◌^◌, cond, ◌&&◌, ◌==◌, List, [], ◌∷◌, ◌++◌, length, Option, Some, None, Result, Ok, Err, nat_lt, vec_items, codes, decimal, Vec}
 use Rattle.std.specs.List.{before_first, enumerate_from}
 use Rattle.std.specs.Option.{option_map, option_to_list}
 use Rattle.std.specs.Str.{trim, all_ascii_digits}
 use Rattle.std.specs.Str.Lines.{lines}
 use Rattle.std.specs.Str.Parse.{digits_value, without_leading_plus}
-use Rattle.listing.specs.declared.spoiled.Spoiled.{Spoiled}
-use Rattle.listing.specs.declared.spoiled.Spoiled.TheVariants.{Sectors, BadLine}
+use Rattle.std.specs.declared.alloc.Global.{Global}
+use Rattle.listing.specs.declared.spoiled.BadList.{BadList}
+use Rattle.listing.specs.declared.spoiled.BadList.TheVariants.{Line, OutOfMemory}
 
 pub data Listed : Type 0 where
   sectors : List ℕ → Listed
   bad_line : ℕ → Listed
 
-abbrev pub listed_as : Spoiled → Listed
-listed_as (Sectors v) = sectors (vec_items v)
-listed_as (BadLine n) = bad_line n
+abbrev pub listed_as : Result (Vec ℕ Global) BadList → Option Listed
+listed_as (Ok v) = Some (sectors (vec_items v))
+listed_as (Err (Line n)) = Some (bad_line n)
+listed_as (Err OutOfMemory) = None
+
+abbrev pub words : BadList → List ℕ
+words (Line n) = codes "line " ++ (decimal n ++ codes " is no sector number")
+words OutOfMemory = codes "out of memory"
 
 -- 35 is the '#'
 abbrev pub said : List ℕ → List ℕ

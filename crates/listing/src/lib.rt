@@ -7,4 +7,4 @@ mod spoiled;
 
 pub use lines::{hex_line, shown};
 pub use paths::joined;
-pub use spoiled::{Spoiled, spoiled_in};
+pub use spoiled::{BadList, spoiled_in};

@@ -1,9 +1,9 @@
 // Bytes as text: names with their unprintable letters escaped, and lines of hexadecimal.
-ghost use Rattle.std.specs.Prelude.{◌≡◌, ◌<◌, ◌++◌, IfOk, OnOk, string_bytes, map, codes};
-ghost use Rattle.std.specs.Char.{digit_char};
-ghost use Rattle.listing.specs.Lines.{plain, escape, escaped, octet, dotted, spaced, place, line};
+ghost use Rattle.std.specs.Prelude.{◌≡◌, ◌++◌, IfOk, OnOk, string_bytes, map, codes};
+ghost use Rattle.listing.specs.Lines.{plain, escape, escaped, dotted, gap, spaced, place, line};
 
 use std::alloc::{AllocError, Global};
+use std::fmt::Write;
 
 fn is_plain(b: u8) -> bool
     ensures value { result ≡ plain b }
@@ -11,29 +11,15 @@ fn is_plain(b: u8) -> bool
     b >= 0x20 && b < 0x7f
 }
 
-fn digit(d: u8) -> char
-    requires { d < 16 }
-    ensures value { result ≡ digit_char d }
-{
-    char::from(if d < 10 { b'0' + d } else { b'a' - 10 + d })
-}
-
-// A byte in two hexadecimal digits.
-fn push_octet(text: &mut String, b: u8) -> Result<(), AllocError>
-    ensures bytes { OnOk result (string_bytes text.new ≡ string_bytes text.old ++ octet b) }
-{
-    text.push(digit(b / 16))?;
-    text.push(digit(b % 16))
-}
-
+#[tactic(auto, using(std::proofs::lemmas::Fmt::hex_byte))]
 fn push_escape(text: &mut String, b: u8) -> Result<(), AllocError>
     ensures bytes { OnOk result (string_bytes text.new ≡ string_bytes text.old ++ escape b) }
 {
     if is_plain(b) && b != b'\\' {
-        return text.push(char::from(b));
+        text.push(char::from(b))
+    } else {
+        write!(text, "\\x{b:02x}")
     }
-    text.push_str("\\x")?;
-    push_octet(text, b)
 }
 
 // A name as text: printable letters as they are, others and the backslash as \xNN.
@@ -57,13 +43,20 @@ fn push_letters(text: &mut String, bytes: &[u8]) -> Result<(), AllocError>
     Ok(())
 }
 
+// What comes after the byte at a place.
+fn gap(i: usize) -> &'static str
+    ensures value { result.now ≡ gap i }
+{
+    if i % 2 == 1 { " " } else { "" }
+}
+
 // The bytes in digits, two and two.
 fn push_pairs(text: &mut String, bytes: &[u8]) -> Result<(), AllocError>
     ensures bytes { OnOk result (string_bytes text.new ≡ string_bytes text.old ++ spaced 0 bytes.now) }
 {
     for (i, b) in bytes.iter().enumerate() {
-        push_octet(text, *b)?;
-        text.push_str(if i % 2 == 1 { " " } else { "" })?;
+        let gap = gap(i);
+        write!(text, "{b:02x}{gap}")?;
     }
     Ok(())
 }

@@ -1,14 +1,41 @@
 // Lists of spoiled sectors as text: a number to a line; blank lines, and what follows a `#`, say nothing.
-ghost use Rattle.std.specs.Prelude.{◌≡◌, IfOk};
-ghost use Rattle.listing.specs.Spoiled.{said, number, heard, listed_as, listed};
+ghost use Rattle.std.specs.Prelude.{◌≡◌, Some, IfSome};
+ghost use Rattle.listing.specs.Spoiled.{words, said, heard, listed_as, listed};
+ghost use Rattle.std.specs.Result.{result_ok};
+ghost use Rattle.listing.specs.declared.spoiled.BadList.TheVariants.{OutOfMemory};
 
-use std::alloc::{AllocError, Global};
+use std::alloc::{AllocFailed, Global};
+use std::error::Error;
+use std::fmt;
+use std::num::ParseIntError;
 
-#[derive(Drop)]
-pub enum Spoiled {
-    Sectors(Vec<u64>),
+// Why a text gives no list.
+#[derive(Debug, PartialEq, Eq, Drop)]
+pub enum BadList {
     // the first line, from 1 on, that is no number
-    BadLine(usize),
+    Line(usize),
+    OutOfMemory,
+}
+
+impl fmt::Display for BadList {
+    ghost output = { λ e. Some (words e) };
+
+    fn fmt<W: fmt::Write>(&self, f: &mut fmt::Formatter<W>) -> fmt::Result {
+        match self {
+            BadList::Line(n) => write!(f, "line {n} is no sector number"),
+            BadList::OutOfMemory => write!(f, "out of memory"),
+        }
+    }
+}
+
+impl Error for BadList {}
+
+impl From<AllocFailed<u64>> for BadList {
+    ghost from_gives = { λ _ e. e ≡ OutOfMemory };
+
+    fn from(_e: AllocFailed<u64>) -> Self {
+        Self::OutOfMemory
+    }
 }
 
 // What a line says without its comment.
@@ -21,35 +48,30 @@ fn said(line: &str) -> &str
     }
 }
 
-fn number(word: &str) -> Option<u64>
-    ensures value { result ≡ number word.now }
-{
-    word.parse::<u64>().ok()
-}
-
-// The number on a line, if it has one; nothing if it is bad.
-fn heard(line: &str) -> Option<Option<u64>>
-    ensures value { result ≡ heard line.now }
+// The number on a line, if it has one.
+fn heard(line: &str) -> Result<Option<u64>, ParseIntError>
+    ensures value { result_ok result ≡ heard line.now }
 {
     let word = said(line);
     if word.is_empty() {
-        return Some(None);
+        return Ok(None);
     }
-    Some(Some(number(word)?))
+    Ok(Some(word.parse()?))
 }
 
-pub fn spoiled_in(heap: Global, text: &str) -> Result<Spoiled, AllocError>
-    ensures value { IfOk result (λ s. listed_as s ≡ listed text.now) }
+// The sectors that a text lists.
+pub fn spoiled_in(heap: Global, text: &str) -> Result<Vec<u64>, BadList>
+    ensures value { IfSome (listed_as result) (λ s. s ≡ listed text.now) }
 {
     let mut sectors = Vec::new(heap);
     for (i, line) in text.lines().enumerate() {
         match heard(line) {
-            None => return Ok(Spoiled::BadLine(i.saturating_add(1))),
-            Some(None) => continue,
-            Some(Some(sector)) => sectors.push(sector)?,
+            Ok(Some(sector)) => sectors.push(sector)?,
+            Ok(None) => continue,
+            Err(_) => return Err(BadList::Line(i.saturating_add(1))),
         }
     }
-    Ok(Spoiled::Sectors(sectors))
+    Ok(sectors)
 }
 
 #[cfg(test)]
@@ -60,23 +82,21 @@ mod tests {
     #[test]
     fn numbers_blank_lines_and_comments(rt: HostRuntime) -> Result<(), Fail> {
         let text = "# found by the copy\n5\n\n  17 # twice\n0\n";
-        match spoiled_in(rt.alloc(), text)? {
-            Spoiled::Sectors(v) => {
-                assert!(rt; v.as_slice() == [5, 17, 0].as_slice());
-                Ok(())
-            },
-            Spoiled::BadLine(_) => Err(Fail::new("refused")),
-        }
+        let sectors = spoiled_in(rt.alloc(), text)?;
+        assert!(rt; sectors.as_slice() == [5, 17, 0].as_slice());
+        Ok(())
     }
 
     #[test]
     fn a_line_that_is_no_number_is_named(rt: HostRuntime) -> Result<(), Fail> {
-        match spoiled_in(rt.alloc(), "1\n\n2 3\n")? {
-            Spoiled::Sectors(_) => Err(Fail::new("accepted")),
-            Spoiled::BadLine(n) => {
-                assert_eq!(rt; n, 3);
+        match spoiled_in(rt.alloc(), "1\n\n2 3\n") {
+            Ok(_) => Err(Fail::new("accepted")),
+            Err(e) => {
+                assert!(rt; e == BadList::Line(3));
+                let text = e.to_string(rt.alloc())?;
+                assert!(rt; text.as_str() == "line 3 is no sector number");
                 Ok(())
-            },
+            }
         }
     }
 }

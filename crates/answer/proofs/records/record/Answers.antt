@@ -1,6 +1,9 @@
-use Rattle.std.proofs.lemmas.List.{append_assoc}
-use Rattle.byte_lists.proofs.Numbers.{eight_bytes}
+use Rattle.std.proofs.Common.{◌<◌, ◌^◌, arith}
+use Rattle.answer.specs.Digest.{digest}
+use Rattle.answer.proofs.Digits.{number_padded}
 use Rattle.answer.proofs.records.record.Goals as goal
 
 pub returns : goal.returns
-returns c = record { value = simp (c.in_ok-push_hex.ensures.bytes, c.in_ok-line.ensures.ok, c.in_ok-text.ensures.value, c.to_be_bytes.ensures, c.digest.ensures.value, eight_bytes, append_assoc) }
+returns c =
+    let small : digest c.args.content.now < 2 ^ 64 = rw (← c.digest-digest.ensures.value) (omega arith) in
+    record { value = simp (c.in_radix.ensures, c.laid_out.ensures, c.digest-digest.ensures.value, number_padded (digest c.args.content.now) small) at c.format.ensures.ok }

@@ -18,17 +18,18 @@ pub loop-i-init : goal.loop-i-init
 unfolding listed
 loop-i-init c = ap (λ v. listed_on v (enumerate_from 0 (lines c.args.text.now))) c.new-sectors.ensures.items
 
-pub returns-in-None-heard : goal.returns-in-None-heard
-returns-in-None-heard c =
+pub returns-in-Err : goal.returns-in-Err
+returns-in-Err c =
     let t = YieldsList-turn (YieldsList-from_enumerate (YieldsList-from_lines c.args.text.now cc) cc) c.loop-i.yielded _ c.loop-i.yielded_by _ _ (c.in-Some.i, c.in-Some.line) c.in-Some.is c.next.ensures.steps in
-    let e = next_line (vec_items c.loop-i.sectors) (enumerate_from 0 (lines c.args.text.now)) (length c.loop-i.yielded) (c.in-Some.i, c.in-Some.line.now) t None (sym c.in-None-heard.ensures.value) in
+    let says : heard c.in-Some.line.now ≡ None = cc (c.in-Err.ensures.value) in
+    let e = next_line (vec_items c.loop-i.sectors) (enumerate_from 0 (lines c.args.text.now)) (length c.loop-i.yielded) (c.in-Some.i, c.in-Some.line.now) t None says in
     let s : c.saturating_add.result ≡ c.in-Some.i + 1 = omega (arith, c.in-Some.ensures.steps) in
     record { value = ap bad_line s ∙ sym e ∙ c.loop-i.invariant }
 
-pub loop-i-preserved-in-Some-None : goal.loop-i-preserved-in-Some-None
-loop-i-preserved-in-Some-None c =
+pub loop-i-preserved-in-Ok-None : goal.loop-i-preserved-in-Ok-None
+loop-i-preserved-in-Ok-None c =
     let t = YieldsList-turn (YieldsList-from_enumerate (YieldsList-from_lines c.args.text.now cc) cc) c.loop-i.yielded _ c.loop-i.yielded_by _ _ (c.in-Some.i, c.in-Some.line) c.in-Some.is c.next.ensures.steps in
-    let says : heard c.in-Some.line.now ≡ Some None = cc (c.in-Some-None.ensures.value) in
+    let says : heard c.in-Some.line.now ≡ Some None = cc (c.in-Ok-None.ensures.value) in
     let e = next_line (vec_items c.loop-i.sectors) (enumerate_from 0 (lines c.args.text.now)) (length c.loop-i.yielded) (c.in-Some.i, c.in-Some.line.now) t (Some None) says in
     let n = length_push c.loop-i.yielded (c.in-Some.i, c.in-Some.line) in
     let a = append-nil (vec_items c.loop-i.sectors) in
@@ -37,10 +38,10 @@ loop-i-preserved-in-Some-None c =
 pub loop-i-preserved : goal.loop-i-preserved
 loop-i-preserved c =
     let t = YieldsList-turn (YieldsList-from_enumerate (YieldsList-from_lines c.args.text.now cc) cc) c.loop-i.yielded _ c.loop-i.yielded_by _ _ (c.in-Some.i, c.in-Some.line) c.in-Some.is c.next.ensures.steps in
-    let says : heard c.in-Some.line.now ≡ Some (Some c.in-Some-Some.sector) = cc (c.in-Some-Some.ensures.value) in
-    let e = next_line (vec_items c.loop-i.sectors) (enumerate_from 0 (lines c.args.text.now)) (length c.loop-i.yielded) (c.in-Some.i, c.in-Some.line.now) t (Some (Some c.in-Some-Some.sector)) says in
+    let says : heard c.in-Some.line.now ≡ Some (Some c.in-Ok-Some.sector) = cc (c.in-Ok-Some.ensures.value) in
+    let e = next_line (vec_items c.loop-i.sectors) (enumerate_from 0 (lines c.args.text.now)) (length c.loop-i.yielded) (c.in-Some.i, c.in-Some.line.now) t (Some (Some c.in-Ok-Some.sector)) says in
     let n = length_push c.loop-i.yielded (c.in-Some.i, c.in-Some.line) in
-    cc (c.in_ok-push-in-Some-Some.ensures.items)
+    cc (c.in_ok-push-in-Ok-Some.ensures.items)
 
 pub returns : goal.returns
 returns c =
