@@ -3,7 +3,7 @@
 #![tactic(auto)]
 
 use anyhow::anyhow;
-use byte_lists::{put_u32, put_u64};
+use byte_lists::put_number;
 use create::create;
 use fault::Fault;
 use format::{Numbers, judge};
@@ -18,8 +18,8 @@ fn patch(image: &mut [u8], edit: &str) -> anyhow::Result<()> {
     let at = at.parse::<usize>()?;
     let value = value.parse::<u64>()?;
     let done = match rest.split_once('=') {
-        Some(("8", _)) => put_u64(image, at, value),
-        Some(("4", _)) => put_u32(image, at, (value & 0xffff_ffff) as u32),
+        Some(("8", _)) => put_number(image, at, value),
+        Some(("4", _)) => put_number(image, at, (value & 0xffff_ffff) as u32),
         Some(("1", _)) if at < image.len() => {
             image[at] = (value & 0xff) as u8;
             true
@@ -44,10 +44,7 @@ fn patch_all(image: &mut [u8], numbers: &str) -> anyhow::Result<()> {
 // A good header of 512 byte clusters and a guest of 64 KiB.
 fn base(image: &mut [u8]) -> anyhow::Result<()> {
     let mut s = FlatStore::new(image, 0);
-    match create(&mut s, 3, 9, 65536, b"") {
-        Ok(()) => Ok(()),
-        Err(_) => Err(anyhow!("create refused the plain image")),
-    }
+    create(&mut s, 3, 9, 65536, b"").map_err(|_| anyhow!("create refused the plain image"))
 }
 
 // Judges as much of the image as a store of this length would have.

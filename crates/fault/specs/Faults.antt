@@ -5,8 +5,9 @@
 --   fault    a fault where it first arises
 --   deeper   a fault that has passed one backing disk more
 --   shown    a fault as text: number, layer, place and depth
+--   refusal_shown, verdict_shown   the same for people, with its words; and what a call came to, `ok` or that
 --   same_reason, same_fault   whether two are one: by numbers, and by all parts
-use Rattle.std.specs.Prelude.{ℕ, ◌+◌, min, Bool, ◌&&◌, ◌==◌, List, ◌++◌, codes, decimal}
+use Rattle.std.specs.Prelude.{ℕ, ◌+◌, min, Bool, ◌&&◌, ◌==◌, List, ◌++◌, codes, decimal, Ok, Err, Result}
 use Rattle.std.proofs.Math.Utf8.{encode}
 use Rattle.fault.specs.declared.Layer.{Layer}
 use Rattle.fault.specs.declared.Layer.TheVariants.{Header, Tables, Disk, Store, Call}
@@ -89,3 +90,10 @@ same_reason x y = number x == number y
 
 abbrev pub same_fault : Fault → Fault → Bool
 same_fault x y = same_reason x.reason y.reason && (letter x.layer == letter y.layer) && (x.place == y.place) && (x.depth == y.depth)
+
+abbrev pub refusal_shown : Fault → List ℕ
+refusal_shown f = codes "refused " ++ (shown f ++ (codes ": " ++ words f.reason))
+
+abbrev pub verdict_shown : Result (Unit {0}) Fault → List ℕ
+verdict_shown (Ok u) = codes "ok"
+verdict_shown (Err f) = refusal_shown f

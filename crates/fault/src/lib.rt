@@ -4,7 +4,7 @@
 ghost use Rattle.std.specs.Prelude.{◌≡◌, [], ◌∷◌, Some, Decides};
 ghost use Rattle.std.proofs.Math.Utf8.{encode};
 ghost use Rattle.fault.specs.Outcomes.{demanded};
-ghost use Rattle.fault.specs.Faults.{number as number_of, letter as letter_of, words as words_of, fault, deeper as deeper_of, shown as shown_of, same_reason, same_fault};
+ghost use Rattle.fault.specs.Faults.{number as number_of, letter as letter_of, words as words_of, fault, deeper as deeper_of, shown as shown_of, same_reason, same_fault, refusal_shown, verdict_shown};
 
 use std::fmt;
 
@@ -190,6 +190,38 @@ impl fmt::Display for Fault {
         let place = self.place;
         let depth = self.depth;
         write!(f, "{number} {layer} {place} {depth}")
+    }
+}
+
+// A fault as people are told of it: its numbers, and what they mean.
+#[derive(Clone, Copy)]
+pub struct Refusal(pub Fault);
+
+impl fmt::Display for Refusal {
+    ghost output = { λ x. Some (refusal_shown x.0) };
+
+    fn fmt<W: fmt::Write>(&self, f: &mut fmt::Formatter<W>) -> fmt::Result {
+        let fault = self.0;
+        let reason = fault.reason;
+        write!(f, "refused {fault}: {reason}")
+    }
+}
+
+// What a call without an answer of its own came to.
+#[derive(Clone, Copy)]
+pub struct Verdict(pub Result<(), Fault>);
+
+impl fmt::Display for Verdict {
+    ghost output = { λ x. Some (verdict_shown x.0) };
+
+    fn fmt<W: fmt::Write>(&self, f: &mut fmt::Formatter<W>) -> fmt::Result {
+        match self.0 {
+            Ok(()) => write!(f, "ok"),
+            Err(fault) => {
+                let refusal = Refusal(fault);
+                write!(f, "{refusal}")
+            }
+        }
     }
 }
 

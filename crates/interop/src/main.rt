@@ -1,9 +1,10 @@
 // Images that qemu-img made, as we find them; `stdout` has what qemu-img says of the same files.
 #![tactic(auto)]
 
-use format::{Numbers, filled_length, judge, judge_record};
+use format::{Numbers, filled_length, judge};
+use snapshot::judge_record;
 use std::fs;
-use store::{FlatStore, Store};
+use store::FlatStore;
 
 fn backing<'a>(n: &Numbers, image: &'a [u8]) -> &'a [u8] {
     let from = n.name.min(image.len() as u64) as usize;
@@ -26,9 +27,7 @@ fn list(rt: &HostRuntime, n: Numbers, image: &mut [u8]) -> anyhow::Result<()> {
     for _ in 0..n.snapshots.min(64) {
         match judge_record(&s, n, at) {
             Ok(record) => {
-                let mut id = vec![in rt.alloc(); 0u8; record.letters as usize]?;
-                let _ = s.read(record.place.saturating_add(record.id), id.as_mut_slice());
-                let text = String::from_utf8_lossy(rt.alloc(), id.as_slice())?;
+                let text = String::from_utf8_lossy(rt.alloc(), record.id())?;
                 println!(rt; "  snapshot {text}")?;
                 at = at.saturating_add(record.size);
             }

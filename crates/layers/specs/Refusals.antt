@@ -1,14 +1,20 @@
 -- Refusals in words for people. Assumes nothing.
+--   said            what a stop says where there was memory for its words, or not
 --   Says            that a stop says a text, or that memory ran out
 --   refused_words   a fault as text and its reason's words
 --   where_in        for a fault of a file below the first, the file's path: that so deep, or else the last one
 --   refusal         the text for a fault, where an image and the files below it have these paths
-use Rattle.std.specs.Prelude.{◌≡◌, ℕ, ◌-◌, min, cond, List, [], ◌∷◌, ◌++◌, length, get_or, ◌==◌, String, string_bytes, codes}
+use Rattle.std.specs.Prelude.{◌≡◌, ℕ, ◌-◌, min, cond, List, [], ◌∷◌, ◌++◌, length, get_or, ◌==◌, String, string_bytes, codes, Ok, Err, Result}
 use Rattle.std.specs.declared.alloc.Global.{Global}
+use Rattle.std.specs.declared.alloc.AllocError.{AllocError}
 use Rattle.fault.specs.declared.Fault.{Fault}
-use Rattle.fault.specs.Faults.{shown, words}
+use Rattle.fault.specs.Faults.{refusal_shown}
 use Rattle.layers.specs.declared.stop.Stop.{Stop}
 use Rattle.layers.specs.declared.stop.Stop.TheVariants.{Said, Memory, System, Other}
+
+abbrev pub said : Result (String Global) AllocError → Stop
+said (Ok text) = Said text
+said (Err e) = Memory
 
 abbrev pub Says : Stop → List ℕ → Type 0
 Says (Said text) told = string_bytes text ≡ told
@@ -17,7 +23,7 @@ Says (System e) told = ⊥
 Says (Other e) told = ⊥
 
 abbrev pub refused_words : Fault → List ℕ
-refused_words f = codes "refused " ++ (shown f ++ (codes ": " ++ words f.reason))
+refused_words = refusal_shown
 
 abbrev pub where_in : List (String Global) → ℕ → List ℕ
 where_in [] depth = []

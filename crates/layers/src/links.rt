@@ -1,6 +1,6 @@
 // The files of a chain, found by their headers before any is read whole.
 use crate::names::{backing_name, below};
-use crate::reads::{Front, read_front};
+use crate::reads::{Front, failed, read_front};
 use crate::stop::Stop;
 use format::judge;
 use std::alloc::Global;
@@ -18,23 +18,18 @@ pub struct Link {
 }
 
 fn has(links: &[Link], path: &str) -> bool {
-    for link in links {
-        if Path::new(link.path.as_str()) == Path::new(path) {
-            return true;
-        }
-    }
-    false
+    links
+        .iter()
+        .any(|link| Path::new(link.path.as_str()) == Path::new(path))
 }
 
 // An error that names the file, and the image that asked for it.
-fn unread(heap: Global, links: &[Link], path: &str, e: io::Error) -> Result<Stop, Stop> {
-    match links.last() {
-        None => Ok(Stop::Said(format!(in heap; "{path}: {e}")?)),
-        Some(image) => {
-            let asker = image.path.as_str();
-            Ok(Stop::Said(format!(in heap; "{path}: {e}; it is the backing file of {asker}")?))
-        }
-    }
+fn unread(heap: Global, links: &[Link], path: &str, e: io::Error) -> Stop {
+    let Some(image) = links.last() else {
+        return failed(heap, path, e);
+    };
+    let asker = image.path.as_str();
+    Stop::said(format!(in heap; "{path}: {e}; it is the backing file of {asker}"))
 }
 
 // The path of the file below an image; a bad header leads to none, and is the answer of every read that comes to it.
@@ -53,14 +48,16 @@ fn under_of(heap: Global, path: &str, front: &Front) -> Result<Option<String>, S
 fn visit(rt: &HostRuntime, links: &mut Vec<Link>, path: String) -> Result<Option<String>, Stop> {
     let heap = rt.alloc();
     if has(links.as_slice(), path.as_str()) {
-        return Err(Stop::Said(format!(in heap;
+        return Err(Stop::said(format!(in heap;
             "{path}: the chain of backing files comes back to this file"
-        )?));
+        )));
     }
-    let front = match read_front(rt, path.as_str()) {
-        Ok(front) => front,
-        Err(e) => return Err(unread(heap, links.as_slice(), path.as_str(), e)?),
-    };
+    let front = read_front(rt, path.as_str()).map_err(|e| unread(
+        heap,
+        links.as_slice(),
+        path.as_str(),
+        e,
+    ))?;
     let image = links.is_empty() || front.is_image();
     let under = if image {
         under_of(heap, path.as_str(), &front)?
@@ -81,9 +78,9 @@ fn instead_of(
     match (under, instead) {
         (under, None) => Ok(under),
         (Some(_), Some(other)) => Ok(Some(String::from_str(heap, other)?)),
-        (None, Some(_)) => Err(Stop::Said(format!(in heap;
+        (None, Some(_)) => Err(Stop::said(format!(in heap;
             "{path}: has no backing name that --backing could stand for"
-        )?)),
+        ))),
     }
 }
 
@@ -98,15 +95,15 @@ pub(crate) fn links_of(
     let first = visit(rt, &mut links, String::from_str(heap, path)?)?;
     let mut next = instead_of(heap, path, first, instead)?;
     for _ in 1..LONGEST {
-        match next {
-            None => return Ok(links),
-            Some(below) => next = visit(rt, &mut links, below)?,
-        }
+        let Some(below) = next else {
+            return Ok(links);
+        };
+        next = visit(rt, &mut links, below)?;
     }
     match next {
         None => Ok(links),
-        Some(_) => Err(Stop::Said(format!(in heap;
+        Some(_) => Err(Stop::said(format!(in heap;
             "{path}: lies on a chain of more than {LONGEST} files"
-        )?)),
+        ))),
     }
 }

@@ -8,7 +8,7 @@ use crate::reads::{failed, read_whole};
 use crate::stop::Stop;
 use chain::{Chain, Layer};
 use disk::RescuedDisk;
-use fault::Fault;
+use fault::{Fault, Refusal};
 use format::{filled_length, judge_store};
 use listing::{BadList, spoiled_in};
 use memory::MemoryStore;
@@ -58,32 +58,26 @@ pub struct Opened {
 pub fn refused(heap: Global, paths: &[String], f: Fault) -> Stop
     ensures value { Says result (refusal paths.now f) }
 {
-    match words_of(heap, paths, f) {
-        Ok(text) => Stop::Said(text),
-        Err(_) => Stop::Memory,
-    }
+    Stop::said(words_of(heap, paths, f))
 }
 
 fn words_of(heap: Global, paths: &[String], f: Fault) -> Result<String, AllocError>
     ensures value { IfOk result (λ s. string_bytes s ≡ refusal paths.now f) }
 {
-    let words = f.reason.words();
+    let refusal = Refusal(f);
     let [top, rest @ ..] = paths else {
-        return format!(in heap; "refused {f}: {words}");
+        return format!(in heap; "{refusal}");
     };
     if f.depth == 0 || rest.is_empty() {
-        return format!(in heap; "{top}: refused {f}: {words}");
+        return format!(in heap; "{top}: {refusal}");
     }
     let below = (f.depth as usize).min(rest.len());
     let at = &rest[below - 1];
-    format!(in heap; "{top}: refused {f}: {words}, in {at}")
+    format!(in heap; "{top}: {refusal}, in {at}")
 }
 
 fn load(rt: &HostRuntime, path: &str) -> Result<Vec<u8>, Stop> {
-    match read_whole(rt, path) {
-        Ok(bytes) => Ok(bytes),
-        Err(e) => Err(failed(rt.alloc(), path, e)),
-    }
+    read_whole(rt, path).map_err(|e| failed(rt.alloc(), path, e))
 }
 
 // An image without what it lies on, its last cluster filled up.
@@ -97,10 +91,7 @@ pub fn load_alone(rt: &HostRuntime, path: &str) -> Result<MemoryStore, Stop> {
 // The spoiled sectors that a file lists.
 fn load_spoiled(rt: &HostRuntime, path: &str) -> Result<Vec<u64>, Stop> {
     let heap = rt.alloc();
-    let text = match fs::read_to_string(rt, path) {
-        Ok(text) => text,
-        Err(e) => return Err(failed(heap, path, e)),
-    };
+    let text = fs::read_to_string(rt, path).map_err(|e| failed(heap, path, e))?;
     match spoiled_in(heap, text.as_str()) {
         Ok(list) => Ok(list),
         Err(BadList::OutOfMemory) => Err(Stop::Memory),
@@ -143,14 +134,6 @@ fn load_under(rt: &HostRuntime, links: &[Link], spoiled: Vec<u64>) -> Result<Und
     })
 }
 
-fn paths_of(heap: Global, links: Vec<Link>) -> Result<Vec<String>, Stop> {
-    let mut paths = Vec::new(heap);
-    for Link { path, .. } in links {
-        paths.push(path)?;
-    }
-    Ok(paths)
-}
-
 // Reads an image and all that it lies on. Only files can fail here: a bad header is the answer of each call.
 pub fn open(rt: &HostRuntime, path: &str, how: How) -> Result<Opened, Stop> {
     let links = links_of(rt, path, how.backing)?;
@@ -160,6 +143,6 @@ pub fn open(rt: &HostRuntime, path: &str, how: How) -> Result<Opened, Stop> {
     };
     let top = load_alone(rt, first.path.as_str())?;
     let under = load_under(rt, rest, spoiled)?;
-    let paths = paths_of(rt.alloc(), links)?;
+    let paths = links.into_iter().map(|link| link.path).collect(rt.alloc())?;
     Ok(Opened { top, under, paths })
 }

@@ -26,10 +26,7 @@ impl Front {
     pub fn is_image(&self) -> bool
         ensures value { result ≡ opens self.now.bytes.items }
     {
-        match self.bytes.as_slice() {
-            [0x51, 0x46, 0x49, 0xfb, ..] => true,
-            _ => false,
-        }
+        matches!(self.bytes.as_slice(), [0x51, 0x46, 0x49, 0xfb, ..])
     }
 
     // The file's length as an image, a part cluster at the end filled up.
@@ -50,28 +47,12 @@ impl Front {
     }
 }
 
-// Reads until the buffer is full or the file ends; how many bytes there were.
-fn fill(file: &mut File, buffer: &mut [u8]) -> io::Result<usize> {
-    let mut n: usize = 0;
-    for _ in 0..u64::MAX {
-        if n >= buffer.len() {
-            break;
-        }
-        let end = buffer.len();
-        let got = file.read(&mut buffer[n..end])?;
-        if got == 0 {
-            break;
-        }
-        n = n.saturating_add(got);
-    }
-    Ok(n.min(buffer.len()))
-}
-
 pub fn read_front(rt: &HostRuntime, path: &str) -> io::Result<Front> {
     let mut file = File::open(rt, path)?;
     let length = file.metadata()?.len();
-    let mut bytes = vec![in rt.alloc(); 0u8; FRONT]?;
-    let read = fill(&mut file, bytes.as_mut_slice())?;
+    let mut bytes = Vec::with_capacity(rt.alloc(), FRONT)?;
+    let read = file.take(FRONT as u64).read_to_end(&mut bytes)?;
+    bytes.resize(FRONT, 0)?;
     Ok(Front {
         bytes,
         read,
@@ -84,18 +65,11 @@ pub fn read_whole(rt: &HostRuntime, path: &str) -> io::Result<Vec<u8>> {
     let mut file = File::open(rt, path)?;
     let length = file.metadata()?.len() as usize;
     let mut bytes = Vec::with_capacity(rt.alloc(), length.saturating_add(FRONT))?;
-    bytes.resize(length, 0)?;
-    let read = fill(&mut file, bytes.as_mut_slice())?;
-    bytes.truncate(read);
-    // a file that grew meanwhile, or that does not tell its length
     file.read_to_end(&mut bytes)?;
     Ok(bytes)
 }
 
 // An error of the system's, with the file's name before it.
 pub fn failed(heap: Global, path: &str, e: io::Error) -> Stop {
-    match format!(in heap; "{path}: {e}") {
-        Ok(text) => Stop::Said(text),
-        Err(_) => Stop::Memory,
-    }
+    Stop::said(format!(in heap; "{path}: {e}"))
 }

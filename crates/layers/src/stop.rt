@@ -1,4 +1,7 @@
 // Why a task stopped, in words for people that name the file.
+ghost use Rattle.std.specs.Prelude.{◌≡◌};
+ghost use Rattle.layers.specs.Refusals.{said as said_of};
+
 use std::alloc::{AllocError, AllocFailed};
 use std::{fmt, io};
 
@@ -8,6 +11,18 @@ pub enum Stop {
     Memory,
     System(io::Error),
     Other(anyhow::Error),
+}
+
+impl Stop {
+    // The words, or that there was no memory for them.
+    pub fn said(words: Result<String, AllocError>) -> Stop
+        ensures value { result ≡ said_of words }
+    {
+        match words {
+            Ok(text) => Stop::Said(text),
+            Err(_) => Stop::Memory,
+        }
+    }
 }
 
 impl fmt::Display for Stop {

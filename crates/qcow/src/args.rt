@@ -1,12 +1,13 @@
 // The arguments of a task: options with a value, switches, and words.
 use layers::Stop;
-use std::alloc::{AllocError, Global};
+use std::alloc::Global;
+use std::collections::{BTreeMap, BTreeSet};
 
 #[derive(Drop)]
 pub(crate) struct Arguments {
-    // options as they came, each with its value
-    options: Vec<(String, String)>,
-    switches: Vec<String>,
+    // the value of each option, the last one given
+    options: BTreeMap<String, String>,
+    switches: BTreeSet<String>,
     pub(crate) words: Vec<String>,
 }
 
@@ -20,10 +21,10 @@ enum Sort {
 }
 
 fn sort_of(word: &str, valued: &[&str], switches: &[&str]) -> Sort {
-    if has(valued, word) {
+    if valued.contains(&word) {
         return Sort::Valued;
     }
-    if has(switches, word) {
+    if switches.contains(&word) {
         return Sort::Switch;
     }
     if word.starts_with("--") {
@@ -38,12 +39,7 @@ fn sort_of(word: &str, valued: &[&str], switches: &[&str]) -> Sort {
 
 // A task without options of one dash takes a word with one for a file's name.
 fn has_short(names: &[&str]) -> bool {
-    for name in names {
-        if !name.starts_with("--") {
-            return true;
-        }
-    }
-    false
+    names.iter().any(|name| !name.starts_with("--"))
 }
 
 impl Arguments {
@@ -54,26 +50,28 @@ impl Arguments {
         valued: &[&str],
         plain: &[&str],
     ) -> Result<Arguments, Stop> {
-        let mut options = Vec::new(heap);
-        let mut switches = Vec::new(heap);
+        let mut options = BTreeMap::new(heap);
+        let mut switches = BTreeSet::new(heap);
         let mut words = Vec::new(heap);
         let mut name: Option<String> = None;
         for word in given {
             if let Some(option) = name {
-                options.push((option, word))?;
+                options.insert(option, word)?;
                 name = None;
                 continue;
             }
             name = None;
             match sort_of(word.as_str(), valued, plain) {
                 Sort::Valued => name = Some(word),
-                Sort::Switch => switches.push(word)?,
+                Sort::Switch => {
+                    switches.insert(word)?;
+                }
                 Sort::Plain => words.push(word)?,
-                Sort::Unknown => return Err(message(heap, "unknown option", word.as_str())?),
+                Sort::Unknown => return Err(message(heap, "unknown option", word.as_str())),
             }
         }
         if let Some(option) = name {
-            return Err(message(heap, "a value is missing behind", option.as_str())?);
+            return Err(message(heap, "a value is missing behind", option.as_str()));
         }
         Ok(Arguments {
             options,
@@ -84,36 +82,16 @@ impl Arguments {
 
     // The value of an option, the last one given.
     pub(crate) fn option(&self, name: &str) -> Option<&str> {
-        let mut found = None;
-        for pair in self.options.iter() {
-            if pair.0.as_str() == name {
-                found = Some(pair.1.as_str());
-            }
-        }
-        found
+        self.options.get(name).map(|value| value.as_str())
     }
 
     // Whether a switch was given.
     pub(crate) fn switch(&self, name: &str) -> bool {
-        for given in self.switches.iter() {
-            if given.as_str() == name {
-                return true;
-            }
-        }
-        false
+        self.switches.contains(name)
     }
-}
-
-fn has(names: &[&str], name: &str) -> bool {
-    for n in names {
-        if *n == name {
-            return true;
-        }
-    }
-    false
 }
 
 // An error that names what it is about.
-pub(crate) fn message(heap: Global, what: &str, which: &str) -> Result<Stop, AllocError> {
-    Ok(Stop::Said(format!(in heap; "{what} {which}")?))
+pub(crate) fn message(heap: Global, what: &str, which: &str) -> Stop {
+    Stop::said(format!(in heap; "{what} {which}"))
 }

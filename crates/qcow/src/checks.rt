@@ -42,7 +42,7 @@ pub(crate) fn run(rt: &HostRuntime, given: Vec<String>) -> Result<(), Stop> {
     let args = Arguments::new(heap, given, &[], &["--tally"])?;
     let paths = args.words.as_slice();
     let [path] = paths else {
-        return Err(message(heap, "usage:", USAGE)?);
+        return Err(message(heap, "usage:", USAGE));
     };
     let mut m = Mount::new(load_alone(rt, path.as_str())?, ZerosDisk::new(0));
     let n = images::granted(heap, paths, m.numbers())?;
@@ -58,7 +58,7 @@ pub(crate) fn run(rt: &HostRuntime, given: Vec<String>) -> Result<(), Stop> {
     print_totals(rt, totals)?;
     if !m.clean {
         rt.println("not clean")?;
-        return Err(message(heap, path.as_str(), "is not clean")?);
+        return Err(message(heap, path.as_str(), "is not clean"));
     }
     rt.println("clean")?;
     Ok(())

@@ -2,6 +2,7 @@
 use crate::args::{Arguments, message};
 use crate::files;
 use create::create;
+use fault::Refusal;
 use layers::Stop;
 use std::alloc::Global;
 use store::FlatStore;
@@ -10,6 +11,8 @@ pub(crate) const USAGE: &str =
     "qcow create [--compat 0.10|1.1] [--cluster-bits N] [--backing NAME] FILE SIZE";
 
 const VALUED: &[&str] = &["--compat", "--cluster-bits", "--backing"];
+
+const UNITS: [(char, u32); 4] = [('K', 10), ('M', 20), ('G', 30), ('T', 40)];
 
 // What is asked for, as the words have it.
 #[derive(Clone, Copy)]
@@ -22,38 +25,26 @@ struct Wish<'a> {
 
 fn version_of(heap: Global, compat: Option<&str>) -> Result<u32, Stop> {
     match compat {
-        None => Ok(3),
-        Some(text) => match text {
-            "1.1" => Ok(3),
-            "0.10" => Ok(2),
-            _ => Err(message(heap, "--compat is 0.10 or 1.1, not", text)?),
-        },
+        None | Some("1.1") => Ok(3),
+        Some("0.10") => Ok(2),
+        Some(text) => Err(message(heap, "--compat is 0.10 or 1.1, not", text)),
     }
 }
 
 fn bits_of(heap: Global, bits: Option<&str>) -> Result<u32, Stop> {
-    match bits {
-        None => Ok(16),
-        Some(text) => match text.parse::<u32>() {
-            Ok(n) => Ok(n),
-            Err(_) => Err(message(heap, "--cluster-bits takes a number, not", text)?),
-        },
-    }
+    let Some(text) = bits else {
+        return Ok(16);
+    };
+    text.parse()
+        .map_err(|_| message(heap, "--cluster-bits takes a number, not", text))
 }
 
 // The factor of a size's last letter, and what stands before it.
 fn unit(text: &str) -> (&str, u64) {
-    if let Some(front) = text.strip_suffix('K') {
-        return (front, 1 << 10);
-    }
-    if let Some(front) = text.strip_suffix('M') {
-        return (front, 1 << 20);
-    }
-    if let Some(front) = text.strip_suffix('G') {
-        return (front, 1 << 30);
-    }
-    if let Some(front) = text.strip_suffix('T') {
-        return (front, 1 << 40);
+    for (letter, shift) in UNITS {
+        if let Some(front) = text.strip_suffix(letter) {
+            return (front, 1 << shift);
+        }
     }
     (text, 1)
 }
@@ -70,7 +61,7 @@ fn size_of(heap: Global, text: &str) -> Result<u64, Stop> {
         heap,
         "SIZE is a number of bytes, or with K, M, G or T, not",
         text,
-    )?)
+    ))
 }
 
 // The image in memory; it has four clusters.
@@ -79,19 +70,15 @@ fn make(rt: &HostRuntime, path: &str, wish: &Wish) -> Result<Vec<u8>, Stop> {
     let limit = 4usize << wish.bits.min(21);
     let mut list = vec![in heap; 0u8; limit]?;
     let mut s = FlatStore::new(list.as_mut_slice(), 0);
-    match create(
+    create(
         &mut s,
         wish.version,
         wish.bits,
         wish.size,
         wish.name.as_bytes(),
-    ) {
-        Ok(()) => Ok(list),
-        Err(f) => {
-            let words = f.reason.words();
-            Err(Stop::Said(format!(in heap; "{path}: refused {f}: {words}")?))
-        }
-    }
+    )
+    .map_err(|f| Stop::said(format!(in heap; "{path}: {}", Refusal(f))))?;
+    Ok(list)
 }
 
 pub(crate) fn run(rt: &HostRuntime, given: Vec<String>) -> Result<(), Stop> {
@@ -99,7 +86,7 @@ pub(crate) fn run(rt: &HostRuntime, given: Vec<String>) -> Result<(), Stop> {
     let args = Arguments::new(heap, given, VALUED, &[])?;
     let words = args.words.as_slice();
     let [path, size] = words else {
-        return Err(message(heap, "usage:", USAGE)?);
+        return Err(message(heap, "usage:", USAGE));
     };
     let wish = Wish {
         version: version_of(heap, args.option("--compat"))?,

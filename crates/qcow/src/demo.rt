@@ -1,38 +1,24 @@
 // The default task: a store and a disk of each kind and a new image, with what each answered.
 use create::create;
 use disk::{Disk, RawDisk, RescuedDisk, ZerosDisk};
-use fault::Fault;
+use fault::{Refusal, Verdict};
 use format::Numbers;
 use image::Mount;
 use store::{FlatStore, SplitStore, Store, StoreCall, agree};
-
-fn report(rt: &HostRuntime, what: &str, r: Result<(), Fault>) -> anyhow::Result<()> {
-    match r {
-        Ok(()) => println!(rt; "  {what}: ok")?,
-        Err(f) => {
-            let words = f.reason.words();
-            println!(rt; "  {what}: refused {f}: {words}")?;
-        }
-    }
-    Ok(())
-}
 
 fn use_store<S: Store>(rt: &HostRuntime, s: &mut S) -> anyhow::Result<()> {
     let length = s.length();
     let limit = s.limit();
     println!(rt; "  {length} bytes in use, limit {limit}")?;
-    report(rt, "grow to 12", s.grow(12))?;
-    report(rt, "replace 4 bytes from 6", s.replace(6, b"snap"))?;
+    println!(rt; "  grow to 12: {}", Verdict(s.grow(12)))?;
+    println!(rt; "  replace 4 bytes from 6: {}", Verdict(s.replace(6, b"snap")))?;
     let mut run = [0u8; 5];
-    report(rt, "read 5 bytes from 5", s.read(5, &mut run))?;
+    println!(rt; "  read 5 bytes from 5: {}", Verdict(s.read(5, &mut run)))?;
     println!(rt; "  they are {run:?}")?;
-    report(rt, "read 5 bytes from 8", s.read(8, &mut run))?;
-    report(
-        rt,
-        "replace 4 bytes from 2^64 - 1",
-        s.replace(u64::MAX, b"snap"),
-    )?;
-    report(rt, "grow to 17", s.grow(17))?;
+    println!(rt; "  read 5 bytes from 8: {}", Verdict(s.read(8, &mut run)))?;
+    let last = Verdict(s.replace(u64::MAX, b"snap"));
+    println!(rt; "  replace 4 bytes from 2^64 - 1: {last}")?;
+    println!(rt; "  grow to 17: {}", Verdict(s.grow(17)))?;
     Ok(())
 }
 
@@ -40,12 +26,14 @@ fn use_disk<D: Disk>(rt: &HostRuntime, d: &D, sector: u64) -> anyhow::Result<()>
     let n = d.sectors();
     println!(rt; "  {n} sectors")?;
     let mut buffer = [0xeeu8; 512];
-    let r = d.read_sector(sector, &mut buffer);
+    let read = Verdict(d.read_sector(sector, &mut buffer));
     let first = buffer[0];
     let last = buffer[511];
     println!(rt; "  sector {sector} begins with {first} and ends with {last}")?;
-    report(rt, "read it", r)?;
-    report(rt, "read past the end", d.read_sector(n, &mut buffer))
+    println!(rt; "  read it: {read}")?;
+    let past = Verdict(d.read_sector(n, &mut buffer));
+    println!(rt; "  read past the end: {past}")?;
+    Ok(())
 }
 
 fn compare(rt: &HostRuntime) -> anyhow::Result<()> {
@@ -81,7 +69,10 @@ fn compare(rt: &HostRuntime) -> anyhow::Result<()> {
 fn show_numbers<S: Store, B: Disk>(rt: &HostRuntime, m: &Mount<S, B>) -> anyhow::Result<()> {
     let n = match m.numbers() {
         Ok(n) => n,
-        Err(f) => return report(rt, "mount", Err(f)),
+        Err(f) => {
+            println!(rt; "  mount: {}", Refusal(f))?;
+            return Ok(());
+        }
     };
     let Numbers {
         version,
@@ -102,46 +93,36 @@ fn show_numbers<S: Store, B: Disk>(rt: &HostRuntime, m: &Mount<S, B>) -> anyhow:
 
 fn use_reads<S: Store, B: Disk>(rt: &HostRuntime, m: &Mount<S, B>) -> anyhow::Result<()> {
     let mut buffer = [0xeeu8; 512];
-    report(
-        rt,
-        "read sector 1, which the master shows",
-        m.read(1, &mut buffer),
-    )?;
+    let read = Verdict(m.read(1, &mut buffer));
+    println!(rt; "  read sector 1, which the master shows: {read}")?;
     let first = buffer[0];
     let last = buffer[511];
     println!(rt; "  it begins with {first} and ends with {last}")?;
-    report(rt, "read sector 128", m.read(128, &mut buffer))?;
-    report(
-        rt,
-        "read it through the mount as a disk",
-        m.read_sector(128, &mut buffer),
-    )
+    let past = Verdict(m.read(128, &mut buffer));
+    println!(rt; "  read sector 128: {past}")?;
+    let past = Verdict(m.read_sector(128, &mut buffer));
+    println!(rt; "  read it through the mount as a disk: {past}")?;
+    Ok(())
 }
 
 // A new image, mounted; the same store once more; and a store that holds no image.
 fn use_image(rt: &HostRuntime) -> anyhow::Result<()> {
     let mut list = [0u8; 4096];
     let mut s = FlatStore::new(&mut list, 0);
-    report(
-        rt,
-        "create version 3, 512 byte clusters, 64 KiB",
-        create(&mut s, 3, 9, 65536, b"master.raw"),
-    )?;
-    report(
-        rt,
-        "create in the same store",
-        create(&mut s, 3, 9, 65536, b""),
-    )?;
+    let created = Verdict(create(&mut s, 3, 9, 65536, b"master.raw"));
+    println!(rt; "  create version 3, 512 byte clusters, 64 KiB: {created}")?;
+    let again = Verdict(create(&mut s, 3, 9, 65536, b""));
+    println!(rt; "  create in the same store: {again}")?;
     let master = [5u8; 700];
     let m = Mount::new(s, RawDisk::new(&master));
     show_numbers(rt, &m)?;
     use_reads(rt, &m)?;
     let mut other = [0u8; 1024];
     let m = Mount::new(FlatStore::new(&mut other, 1024), ZerosDisk::new(0));
-    match m.numbers() {
-        Ok(_) => Ok(()),
-        Err(f) => report(rt, "mount a store of zeros", Err(f)),
+    if let Err(f) = m.numbers() {
+        println!(rt; "  mount a store of zeros: {}", Refusal(f))?;
     }
+    Ok(())
 }
 
 pub(crate) fn run(rt: &HostRuntime) -> anyhow::Result<()> {

@@ -37,10 +37,8 @@ fn fill<S: Store, B: Disk>(
     first: u64,
     piece: &mut [u8],
 ) -> Result<(), Fault> {
-    let mut sector = first;
-    for buffer in piece.chunks_mut(512) {
-        copy_out(m, words, sector, buffer)?;
-        sector = sector.saturating_add(1);
+    for (i, buffer) in piece.chunks_mut(512).enumerate() {
+        copy_out(m, words, first.saturating_add(i as u64), buffer)?;
     }
     Ok(())
 }
@@ -67,17 +65,14 @@ fn copy_all<S: Store, B: Disk>(work: &Work, m: &Mount<S, B>, file: &mut File) ->
     let heap = work.rt.alloc();
     let mut piece = vec![in heap; 0u8; PIECE as usize * 512]?;
     let mut progress = Progress::new(work.rt, work.sectors);
-    let mut first: u64 = 0;
-    for _ in 0..work.sectors / PIECE + 1 {
+    for i in 0..work.sectors.div_ceil(PIECE) {
+        let first = i.saturating_mul(PIECE);
         let count = work.sectors.saturating_sub(first).min(PIECE);
         let end = (count as usize * 512).min(piece.len());
         let bytes = &mut piece.as_mut_slice()[0..end];
         images::granted(heap, work.paths, fill(m, work.words, first, bytes))?;
-        if let Err(e) = put(file, bytes) {
-            return Err(failed(heap, work.part, e));
-        }
-        first = first.saturating_add(count);
-        progress.show(work.rt, first);
+        put(file, bytes).map_err(|e| failed(heap, work.part, e))?;
+        progress.show(work.rt, first.saturating_add(count));
     }
     progress.end(work.rt);
     Ok(())
@@ -86,13 +81,9 @@ fn copy_all<S: Store, B: Disk>(work: &Work, m: &Mount<S, B>, file: &mut File) ->
 // Gives the file its length, holes at its end among it, and flushes it to the disk.
 fn finish(work: &Work, file: &File) -> Result<(), Stop> {
     let heap = work.rt.alloc();
-    if let Err(e) = file.set_len(work.sectors.saturating_mul(512)) {
-        return Err(failed(heap, work.part, e));
-    }
-    match file.sync_all() {
-        Ok(()) => Ok(()),
-        Err(e) => Err(failed(heap, work.part, e)),
-    }
+    file.set_len(work.sectors.saturating_mul(512))
+        .map_err(|e| failed(heap, work.part, e))?;
+    file.sync_all().map_err(|e| failed(heap, work.part, e))
 }
 
 fn write_new<S: Store, B: Disk>(work: &Work, m: &Mount<S, B>, file: &mut File) -> Result<(), Stop> {
@@ -104,7 +95,7 @@ pub(crate) fn run(rt: &HostRuntime, given: Vec<String>) -> Result<(), Stop> {
     let heap = rt.alloc();
     let args = Arguments::new(heap, given, images::VALUED, NO_OPTIONS)?;
     let [path, out] = args.words.as_slice() else {
-        return Err(message(heap, "usage:", USAGE)?);
+        return Err(message(heap, "usage:", USAGE));
     };
     files::judge_new(rt, out.as_str())?;
     let Opened { top, under, paths } = open(rt, path.as_str(), images::how(&args))?;

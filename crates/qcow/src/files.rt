@@ -9,9 +9,9 @@ use std::{fs, process};
 pub(crate) fn judge_new(rt: &HostRuntime, path: &str) -> Result<(), Stop> {
     match fs::exists(rt, path) {
         Ok(false) => Ok(()),
-        Ok(true) => Err(Stop::Said(format!(in rt.alloc();
+        Ok(true) => Err(Stop::said(format!(in rt.alloc();
             "{path}: exists already, and is left as it is"
-        )?)),
+        ))),
         Err(e) => Err(failed(rt.alloc(), path, e)),
     }
 }
@@ -24,21 +24,15 @@ pub(crate) fn part_of(rt: &HostRuntime, path: &str) -> Result<String, AllocError
 
 // Gives a written file its name, or removes it.
 pub(crate) fn name_it(rt: &HostRuntime, part: &str, path: &str) -> Result<(), Stop> {
-    match fs::rename(rt, part, path) {
-        Ok(()) => Ok(()),
-        Err(e) => {
-            let _ = fs::remove_file(rt, part);
-            Err(failed(rt.alloc(), path, e))
-        }
-    }
+    fs::rename(rt, part, path).map_err(|e| {
+        let _ = fs::remove_file(rt, part);
+        failed(rt.alloc(), path, e)
+    })
 }
 
 // A new file under that name; one that is there already is somebody else's and stays.
 pub(crate) fn create_part(rt: &HostRuntime, part: &str) -> Result<File, Stop> {
-    match File::create_new(rt, part) {
-        Ok(file) => Ok(file),
-        Err(e) => Err(failed(rt.alloc(), part, e)),
-    }
+    File::create_new(rt, part).map_err(|e| failed(rt.alloc(), part, e))
 }
 
 // Writes under another name in the same folder, flushes to the disk and renames, so that a crash leaves no file or a whole one.

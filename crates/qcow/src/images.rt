@@ -21,21 +21,16 @@ pub(crate) fn how(args: &Arguments) -> How<'_> {
 
 // An answer, or the stop that a refusal is.
 pub(crate) fn granted<T>(heap: Global, paths: &[String], r: Result<T, Fault>) -> Result<T, Stop> {
-    match r {
-        Ok(x) => Ok(x),
-        Err(f) => Err(refused(heap, paths, f)),
-    }
+    r.map_err(|f| refused(heap, paths, f))
 }
 
 // The id of the snapshot that is meant; the empty one is the live disk's, and no snapshot's.
 fn judged(id: Option<&str>) -> Result<&[u8], Fault> {
-    match id {
-        None => Ok(b""),
-        Some(text) => {
-            judge_id(text.as_bytes())?;
-            Ok(text.as_bytes())
-        }
-    }
+    let Some(text) = id else {
+        return Ok(b"");
+    };
+    judge_id(text.as_bytes())?;
+    Ok(text.as_bytes())
 }
 
 // The map of the live disk, or of a snapshot.

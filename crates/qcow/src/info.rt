@@ -1,6 +1,6 @@
 // `qcow info`: what a file's header says, or the fault that it has.
 use crate::args::{Arguments, message};
-use fault::Fault;
+use fault::{Fault, Refusal};
 use format::{Numbers, judge};
 use layers::{Stop, backing_name, failed, read_front};
 use listing::shown;
@@ -42,9 +42,8 @@ fn print(rt: &HostRuntime, n: &Numbers, front: &[u8]) -> Result<(), Stop> {
 }
 
 fn refuse(rt: &HostRuntime, path: &str, f: Fault) -> Result<(), Stop> {
-    let words = f.reason.words();
-    println!(rt; "refused {f}: {words}")?;
-    Err(message(rt.alloc(), path, "has no good header")?)
+    println!(rt; "{}", Refusal(f))?;
+    Err(message(rt.alloc(), path, "has no good header"))
 }
 
 pub(crate) fn run(rt: &HostRuntime, given: Vec<String>) -> Result<(), Stop> {
@@ -52,12 +51,9 @@ pub(crate) fn run(rt: &HostRuntime, given: Vec<String>) -> Result<(), Stop> {
     let args = Arguments::new(heap, given, NO_OPTIONS, NO_OPTIONS)?;
     let words = args.words.as_slice();
     let [path] = words else {
-        return Err(message(heap, "usage:", USAGE)?);
+        return Err(message(heap, "usage:", USAGE));
     };
-    let front = match read_front(rt, path.as_str()) {
-        Ok(front) => front,
-        Err(e) => return Err(failed(heap, path.as_str(), e)),
-    };
+    let front = read_front(rt, path.as_str()).map_err(|e| failed(heap, path.as_str(), e))?;
     match judge(front.shown(), front.filled()) {
         Ok(numbers) => print(rt, &numbers, front.shown()),
         Err(f) => refuse(rt, path.as_str(), f),

@@ -40,10 +40,7 @@ fn run(rt: &HostRuntime) -> Result<(), Stop> {
     let Some(task) = args.next() else {
         return Ok(demo::run(rt)?);
     };
-    let mut given = Vec::new(rt.alloc());
-    for word in args {
-        given.push(word)?;
-    }
+    let given = args.collect(rt.alloc())?;
     match task.as_str() {
         "create" => creation::run(rt, given),
         "info" => info::run(rt, given),

@@ -52,7 +52,7 @@ pub(crate) fn run(rt: &HostRuntime, given: Vec<String>) -> Result<(), Stop> {
     let args = Arguments::new(heap, given, &["-l"], &["--words"])?;
     let paths = args.words.as_slice();
     let [path] = paths else {
-        return Err(message(heap, "usage:", USAGE)?);
+        return Err(message(heap, "usage:", USAGE));
     };
     // the tables alone say where clusters lie, so no backing file is asked for
     let m = Mount::new(load_alone(rt, path.as_str())?, ZerosDisk::new(0));

@@ -12,18 +12,16 @@ pub(crate) const USAGE: &str =
     "qcow read [-l ID] [--hex] [--backing FILE] [--spoiled LIST] FILE SECTOR";
 
 fn sector_of(heap: Global, text: &str) -> Result<u64, Stop> {
-    match text.parse::<u64>() {
-        Ok(n) => Ok(n),
-        Err(_) => Err(message(heap, "SECTOR is a number, not", text)?),
-    }
+    text.parse()
+        .map_err(|_| message(heap, "SECTOR is a number, not", text))
 }
 
 fn print_hex(rt: &HostRuntime, sector: u64, buffer: &[u8]) -> Result<(), Stop> {
-    let mut at = sector.saturating_mul(512);
-    for bytes in buffer.chunks(16) {
+    let first = sector.saturating_mul(512);
+    for (i, bytes) in buffer.chunks(16).enumerate() {
+        let at = first.saturating_add((i as u64).saturating_mul(16));
         let line = hex_line(rt.alloc(), at, bytes)?;
         rt.println(line.as_str())?;
-        at = at.saturating_add(16);
     }
     Ok(())
 }
@@ -32,7 +30,7 @@ pub(crate) fn run(rt: &HostRuntime, given: Vec<String>) -> Result<(), Stop> {
     let heap = rt.alloc();
     let args = Arguments::new(heap, given, images::VALUED, &["--hex"])?;
     let [path, sector] = args.words.as_slice() else {
-        return Err(message(heap, "usage:", USAGE)?);
+        return Err(message(heap, "usage:", USAGE));
     };
     let sector = sector_of(heap, sector.as_str())?;
     let Opened { top, under, paths } = open(rt, path.as_str(), images::how(&args))?;

@@ -28,34 +28,28 @@ fn date_in<S: Store>(s: &S, r: &Snapshot) -> Result<Date, Fault> {
     Ok(date_of(u32::from_be_bytes(seconds)))
 }
 
-// The name, which stands behind the extra data and the id; how many of the buffer's bytes it has.
-fn name_in<S: Store>(s: &S, r: &Snapshot, name: &mut [u8; 64]) -> Result<usize, Fault> {
-    let length = (r.name as usize).min(64);
+// The name, which stands behind the extra data and the id.
+fn read_name<S: Store>(s: &S, r: &Snapshot, name: &mut [u8]) -> Result<(), Fault> {
     let front = 40 + r.extra as u64 + r.letters as u64;
-    s.read(r.place.saturating_add(front), &mut name[0..length])?;
-    Ok(length)
+    s.read(r.place.saturating_add(front), name)
 }
 
 fn row_of<S: Store>(heap: Global, paths: &[String], s: &S, r: &Snapshot) -> Result<Row, Stop> {
-    let mut name = [0u8; 64];
-    let length = images::granted(heap, paths, name_in(s, r, &mut name))?;
+    let mut name = vec![in heap; 0u8; r.name as usize]?;
+    images::granted(heap, paths, read_name(s, r, name.as_mut_slice()))?;
     let date = images::granted(heap, paths, date_in(s, r))?;
     Ok(Row {
-        id: shown(heap, &r.id[0..(r.letters as usize).min(16)])?,
-        name: shown(heap, &name[0..length.min(64)])?,
+        id: shown(heap, r.id())?,
+        name: shown(heap, name.as_slice())?,
         date,
     })
 }
 
 // The widest id and the widest name, the headings among them.
 fn widths(rows: &[Row]) -> (usize, usize) {
-    let mut id = 2;
-    let mut name = 4;
-    for row in rows {
-        id = row.id.len().max(id);
-        name = row.name.len().max(name);
-    }
-    (id, name)
+    let id = rows.iter().map(|row| row.id.len()).max().unwrap_or(0);
+    let name = rows.iter().map(|row| row.name.len()).max().unwrap_or(0);
+    (id.max(2), name.max(4))
 }
 
 fn print(rt: &HostRuntime, rows: &[Row], size: u64) -> Result<(), Stop> {
@@ -76,10 +70,10 @@ pub(crate) fn run(rt: &HostRuntime, given: Vec<String>) -> Result<(), Stop> {
     let args = Arguments::new(heap, given, NO_OPTIONS, &["-l"])?;
     let paths = args.words.as_slice();
     let [path] = paths else {
-        return Err(message(heap, "usage:", USAGE)?);
+        return Err(message(heap, "usage:", USAGE));
     };
     if !args.switch("-l") {
-        return Err(message(heap, "usage:", USAGE)?);
+        return Err(message(heap, "usage:", USAGE));
     }
     let s = load_alone(rt, path.as_str())?;
     let n = images::granted(heap, paths, judge_store(&s))?;

@@ -28,8 +28,7 @@ fn ids<S: Store>(heap: Global, s: &S, n: Numbers) -> Result<String, Stop> {
     };
     let mut text = String::new(heap);
     for r in records.kept() {
-        let end = (r.letters as usize).min(16);
-        let id = String::from_utf8_lossy(heap, &r.id[0..end])?;
+        let id = String::from_utf8_lossy(heap, r.id())?;
         text.push(' ')?;
         text.push_str(id.as_str())?;
     }
@@ -109,12 +108,10 @@ fn equal_in<S: Store, B: Disk>(
     expected: &[u8],
 ) -> Result<u64, Fault> {
     let mut equal: u64 = 0;
-    let mut sector: u64 = 0;
-    for want in expected.chunks(512) {
-        if is_equal(m, id, words, sector, want)? {
+    for (sector, want) in expected.chunks(512).enumerate() {
+        if is_equal(m, id, words, sector as u64, want)? {
             equal = equal.saturating_add(1);
         }
-        sector = sector.saturating_add(1);
     }
     Ok(equal)
 }
@@ -152,10 +149,10 @@ fn say(rt: &HostRuntime, live: bool, id: &str, sectors: u64) -> Result<(), Stop>
     Ok(())
 }
 
-fn differs(heap: Global, raw: &str, equal: u64, sectors: u64) -> Result<Stop, Stop> {
-    Ok(Stop::Said(format!(in heap;
+fn differs(heap: Global, raw: &str, equal: u64, sectors: u64) -> Stop {
+    Stop::said(format!(in heap;
         "{raw}: only {equal} sectors of {sectors} are as this file has them"
-    )?))
+    ))
 }
 
 // A disk of an image, `-` for the live one, and the file with what qemu-img read from it.
@@ -163,21 +160,18 @@ fn hold(rt: &HostRuntime, name: &str, id: &str, raw: &str) -> Result<(), Stop> {
     let heap = rt.alloc();
     let Opened { top, under, paths } = open(rt, name, PLAIN)?;
     let mut m = Mount::new(top, under.disk());
-    let n = match m.numbers() {
-        Ok(n) => n,
-        Err(f) => return Err(refused(heap, paths.as_slice(), f)),
-    };
+    let n = m
+        .numbers()
+        .map_err(|f| refused(heap, paths.as_slice(), f))?;
     if id == "-" {
         examine(rt, name, &m.store, n)?;
         judge_counts(rt, &mut m, n)?;
     }
     let expected = fs::read(rt, raw)?;
-    let equal = match compare(heap, &m, id_of(id), expected.as_slice())? {
-        Ok(equal) => equal,
-        Err(f) => return Err(refused(heap, paths.as_slice(), f)),
-    };
+    let equal = compare(heap, &m, id_of(id), expected.as_slice())?
+        .map_err(|f| refused(heap, paths.as_slice(), f))?;
     if equal != sectors_of(n) || expected.len() as u64 != n.size {
-        return Err(differs(heap, raw, equal, sectors_of(n))?);
+        return Err(differs(heap, raw, equal, sectors_of(n)));
     }
     say(rt, id == "-", id, equal)
 }
@@ -187,9 +181,9 @@ fn run(rt: &HostRuntime) -> Result<(), Stop> {
     for line in disks.as_str().lines() {
         let mut words = line.split(' ');
         let (Some(name), Some(id), Some(raw)) = (words.next(), words.next(), words.next()) else {
-            return Err(Stop::Said(format!(in rt.alloc();
+            return Err(Stop::said(format!(in rt.alloc();
                 "disks: a line without three words: {line}"
-            )?));
+            )));
         };
         hold(rt, name, id, raw)?;
     }

@@ -48,7 +48,7 @@ returns-then-f-eq0 c =
       | then-f-eq0-via-else-f-eq0+then-is_empty w ↦ inr (ap length (sym (rest_whole ps)) ∙ eqb-true _ 0 (sym w.if-is_empty.ensures))
     ] in
     let e = alone ps c.top-item.result c.args.f c.in-len1-up.len_at_least c.top-item.is none in
-    record { value = simp (e, append_assoc) (simp (c.words-words.ensures.value, append_assoc) at c.format-then-f-eq0.ensures.ok) }
+    record { value = simp (e, append_assoc) (simp append_assoc at c.format-then-f-eq0.ensures.ok) }
 
 pub returns : goal.returns
 returns c =
@@ -57,4 +57,4 @@ returns c =
     (λ none. eqb-false _ 0 (sym c.if-is_empty.ensures) (ap length (rest_whole ps) ∙ none))
     (rw (rest_whole ps) at c.min-below.ensures)
     (rw (rest_whole ps) at c.index-rest-below.is) in
-    record { value = simp (e, append_assoc) (simp (c.words-words.ensures.value, append_assoc) at c.format-2.ensures.ok) }
+    record { value = simp (e, append_assoc) (simp append_assoc at c.format-2.ensures.ok) }
