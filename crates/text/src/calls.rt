@@ -2,7 +2,7 @@
 ghost use Rattle.std.specs.Prelude.{◌≡◌, IfOk, vec_items};
 ghost use Rattle.std.specs.Option.{option_map};
 ghost use Rattle.text.specs.declared.verbs.Verb.TheVariants as verbs;
-ghost use Rattle.text.specs.Words.{nth, words};
+ghost use Rattle.text.specs.Words.{words};
 ghost use Rattle.text.specs.Values.{Tells};
 ghost use Rattle.text.specs.Calls.{meant, number_at, number_or, bytes_at, bytes_or, numbers_at, parsed, heard};
 
@@ -10,6 +10,7 @@ use crate::values::{Form, Misread, number, numbers, spelled};
 use crate::verbs::{Verb, verb_of};
 use crate::words::word;
 use std::alloc::{AllocError, Global};
+use std::marker::Model;
 
 // A call with its arguments, or a line that is none, with words that say so.
 #[derive(Drop)]
@@ -77,22 +78,32 @@ pub enum Call {
 }
 
 // A line, and where what its words spell is kept.
-#[derive(Clone, Copy)]
+// A contract sees its words.
+#[derive(Drop)]
 struct Line<'a> {
     heap: Global,
     text: &'a [u8],
 }
 
+impl<'a> Model for Line<'a> {
+    ghost use Rattle.std.specs.Prelude.{ℕ, List};
+    ghost use Rattle.text.specs.Words.{words};
+
+    ghost Value = { List (List ℕ) };
+
+    ghost view = { λ line. words line.text.now };
+}
+
 impl Line<'_> {
     fn number(&self, i: usize) -> Result<u64, Misread>
-        ensures value { Tells result (λ n. n) (number_at (words self.now.text.now) i) }
+        ensures value { Tells result (λ n. n) (number_at self.now i) }
     {
         number(word(self.text, i).ok_or(Misread::Misspelt)?)
     }
 
     // A number that may be left out.
     fn number_or(&self, i: usize, otherwise: u64) -> Result<u64, Misread>
-        ensures value { Tells result (λ n. n) (number_or (words self.now.text.now) i otherwise) }
+        ensures value { Tells result (λ n. n) (number_or self.now i otherwise) }
     {
         match word(self.text, i) {
             Some(w) => number(w),
@@ -101,7 +112,7 @@ impl Line<'_> {
     }
 
     fn bytes(&self, i: usize, form: Form) -> Result<Vec<u8>, Misread>
-        ensures value { Tells result vec_items (bytes_at (words self.now.text.now) i form) }
+        ensures value { Tells result vec_items (bytes_at self.now i form) }
     {
         let w = word(self.text, i).ok_or(Misread::Misspelt)?;
         spelled(self.heap, w, form)
@@ -109,7 +120,7 @@ impl Line<'_> {
 
     // Bytes that are left out are none.
     fn bytes_or(&self, i: usize) -> Result<Vec<u8>, Misread>
-        ensures value { Tells result vec_items (bytes_or (words self.now.text.now) i) }
+        ensures value { Tells result vec_items (bytes_or self.now i) }
     {
         match word(self.text, i) {
             Some(w) => spelled(self.heap, w, Form::Hexadecimal),
@@ -118,14 +129,14 @@ impl Line<'_> {
     }
 
     fn numbers(&self, i: usize) -> Result<Vec<u64>, Misread>
-        ensures value { Tells result vec_items (numbers_at (words self.now.text.now) i) }
+        ensures value { Tells result vec_items (numbers_at self.now i) }
     {
         let w = word(self.text, i).ok_or(Misread::Misspelt)?;
         numbers(self.heap, w)
     }
 
     fn store_flat(&self) -> Result<Call, Misread>
-        ensures value { Tells result meant (parsed verbs.StoreFlat (words self.now.text.now)) }
+        ensures value { Tells result meant (parsed verbs.StoreFlat self.now) }
     {
         let limit = self.number(1)?;
         let content = self.bytes_or(2)?;
@@ -133,7 +144,7 @@ impl Line<'_> {
     }
 
     fn store_split(&self) -> Result<Call, Misread>
-        ensures value { Tells result meant (parsed verbs.StoreSplit (words self.now.text.now)) }
+        ensures value { Tells result meant (parsed verbs.StoreSplit self.now) }
     {
         let first = self.number(1)?;
         let second = self.number(2)?;
@@ -146,7 +157,7 @@ impl Line<'_> {
     }
 
     fn store_read(&self) -> Result<Call, Misread>
-        ensures value { Tells result meant (parsed verbs.StoreRead (words self.now.text.now)) }
+        ensures value { Tells result meant (parsed verbs.StoreRead self.now) }
     {
         let first = self.number(1)?;
         let count = self.number(2)?;
@@ -154,7 +165,7 @@ impl Line<'_> {
     }
 
     fn store_replace(&self) -> Result<Call, Misread>
-        ensures value { Tells result meant (parsed verbs.StoreReplace (words self.now.text.now)) }
+        ensures value { Tells result meant (parsed verbs.StoreReplace self.now) }
     {
         let first = self.number(1)?;
         let new = self.bytes(2, Form::Hexadecimal)?;
@@ -162,28 +173,28 @@ impl Line<'_> {
     }
 
     fn store_grow(&self) -> Result<Call, Misread>
-        ensures value { Tells result meant (parsed verbs.StoreGrow (words self.now.text.now)) }
+        ensures value { Tells result meant (parsed verbs.StoreGrow self.now) }
     {
         let length = self.number(1)?;
         Ok(Call::StoreGrow { length })
     }
 
     fn disk_zeros(&self) -> Result<Call, Misread>
-        ensures value { Tells result meant (parsed verbs.DiskZeros (words self.now.text.now)) }
+        ensures value { Tells result meant (parsed verbs.DiskZeros self.now) }
     {
         let sectors = self.number(1)?;
         Ok(Call::DiskZeros { sectors })
     }
 
     fn disk_raw(&self) -> Result<Call, Misread>
-        ensures value { Tells result meant (parsed verbs.DiskRaw (words self.now.text.now)) }
+        ensures value { Tells result meant (parsed verbs.DiskRaw self.now) }
     {
         let content = self.bytes(1, Form::Hexadecimal)?;
         Ok(Call::DiskRaw { content })
     }
 
     fn disk_rescued(&self) -> Result<Call, Misread>
-        ensures value { Tells result meant (parsed verbs.DiskRescued (words self.now.text.now)) }
+        ensures value { Tells result meant (parsed verbs.DiskRescued self.now) }
     {
         let content = self.bytes(1, Form::Hexadecimal)?;
         let spoiled = self.numbers(2)?;
@@ -191,14 +202,14 @@ impl Line<'_> {
     }
 
     fn disk_read(&self) -> Result<Call, Misread>
-        ensures value { Tells result meant (parsed verbs.DiskRead (words self.now.text.now)) }
+        ensures value { Tells result meant (parsed verbs.DiskRead self.now) }
     {
         let sector = self.number(1)?;
         Ok(Call::DiskRead { sector })
     }
 
     fn create(&self) -> Result<Call, Misread>
-        ensures value { Tells result meant (parsed verbs.Create (words self.now.text.now)) }
+        ensures value { Tells result meant (parsed verbs.Create self.now) }
     {
         let version = self.number(1)?;
         let bits = self.number(2)?;
@@ -213,7 +224,7 @@ impl Line<'_> {
     }
 
     fn read(&self) -> Result<Call, Misread>
-        ensures value { Tells result meant (parsed verbs.Read (words self.now.text.now)) }
+        ensures value { Tells result meant (parsed verbs.Read self.now) }
     {
         let sector = self.number(1)?;
         let length = self.number_or(2, 512)?;
@@ -221,7 +232,7 @@ impl Line<'_> {
     }
 
     fn peek(&self) -> Result<Call, Misread>
-        ensures value { Tells result meant (parsed verbs.Peek (words self.now.text.now)) }
+        ensures value { Tells result meant (parsed verbs.Peek self.now) }
     {
         let id = self.bytes(1, Form::Plain)?;
         let sector = self.number(2)?;
@@ -230,7 +241,7 @@ impl Line<'_> {
     }
 
     fn map(&self) -> Result<Call, Misread>
-        ensures value { Tells result meant (parsed verbs.Map (words self.now.text.now)) }
+        ensures value { Tells result meant (parsed verbs.Map self.now) }
     {
         let id = self.bytes(1, Form::Plain)?;
         let words = self.number(2)?;
@@ -238,7 +249,7 @@ impl Line<'_> {
     }
 
     fn check(&self) -> Result<Call, Misread>
-        ensures value { Tells result meant (parsed verbs.Check (words self.now.text.now)) }
+        ensures value { Tells result meant (parsed verbs.Check self.now) }
     {
         let words = self.number(1)?;
         Ok(Call::Check { words })
@@ -246,7 +257,7 @@ impl Line<'_> {
 
     // The call of a verb that these words make.
     fn call(&self, verb: Verb) -> Result<Call, Misread>
-        ensures value { Tells result meant (parsed verb (words self.now.text.now)) }
+        ensures value { Tells result meant (parsed verb self.now) }
     {
         match verb {
             Verb::StoreFlat => self.store_flat(),
