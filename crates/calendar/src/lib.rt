@@ -6,7 +6,7 @@ ghost use Rattle.calendar.specs.Days.{leap as leap_of, year_days, month_days, ye
 
 use std::fmt;
 
-#[derive(Clone, Copy)]
+#[derive(Clone, Copy, Debug, PartialEq, Eq)]
 pub struct Date {
     pub year: u32,
     // 1 for January
@@ -41,36 +41,38 @@ fn month_days(year: u32, month: u32) -> u32
     }
 }
 
-// Whole years since 1970, and the days behind them.
-fn split_years(days: u32) -> (u32, u32)
+// The year of a day, days being counted from 1970 on, and the days of that year before it.
+fn year_of(days: u32) -> (u32, u32)
     requires { days < 50000 }
-    ensures sum { years result.0 + result.1 ≡ days }
-    ensures rest { result.1 < year_days (1970 + result.0) }
-    ensures few { result.0 ≤ days }
+    ensures sum { years (result.0 - 1970) + result.1 ≡ days }
+    ensures rest { result.1 < year_days result.0 }
+    ensures few { (1970 ≤ result.0) × (result.0 ≤ 1970 + days) }
 {
     let mut rest = days;
-    let mut n = 0;
-    while rest >= year_days(1970 + n) {
-        rest -= year_days(1970 + n);
-        n += 1;
+    let mut year = 1970;
+    while rest >= year_days(year) {
+        rest -= year_days(year);
+        year += 1;
     }
-    (n, rest)
+    (year, rest)
 }
 
-// Whole months of a year, and the days behind them.
-fn split_months(year: u32, days: u32) -> (u32, u32)
+// The month of a day of a year, and the days of that month before it.
+fn month_of(year: u32, days: u32) -> (u32, u32)
     requires { days < year_days year }
     ensures sum { months year result.0 + result.1 ≡ days }
     ensures rest { result.1 < month_days year result.0 }
     ensures few { result.0 < 12 }
 {
     let mut rest = days;
-    let mut month = 0;
-    while month < 11 && rest >= month_days(year, month) {
-        rest -= month_days(year, month);
-        month += 1;
+    for month in 0..11 {
+        let length = month_days(year, month);
+        if rest < length {
+            return (month, rest);
+        }
+        rest -= length;
     }
-    (month, rest)
+    (11, rest)
 }
 
 pub fn date_of(seconds: u32) -> Date
@@ -81,9 +83,8 @@ pub fn date_of(seconds: u32) -> Date
     ensures time { result.hour * 3600 + result.minute * 60 + result.second ≡ seconds % 86400 }
     ensures clock { (result.hour < 24) × (result.minute < 60) × (result.second < 60) }
 {
-    let (n, rest) = split_years(seconds / 86400);
-    let year = 1970 + n;
-    let (month, day) = split_months(year, rest);
+    let (year, rest) = year_of(seconds / 86400);
+    let (month, day) = month_of(year, rest);
     let time = seconds % 86400;
     Date {
         year,

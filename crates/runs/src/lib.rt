@@ -4,7 +4,7 @@
 ghost use Rattle.std.specs.Prelude.{◌≡◌, ℕ, ◌+◌, ◌-◌, ◌<◌, ◌≤◌, true, false, length, IfSome, MatchOption, slice_index};
 ghost use Rattle.runs.specs.Words.{goes_on, kind_of};
 
-#[derive(Clone, Copy)]
+#[derive(Clone, Copy, Debug, PartialEq, Eq)]
 pub enum Kind {
     Empty,
     Zeros,
@@ -12,7 +12,7 @@ pub enum Kind {
     Data(u32),
 }
 
-#[derive(Clone, Copy)]
+#[derive(Clone, Copy, Debug, PartialEq, Eq)]
 pub struct Run {
     // the first guest cluster, and how many there are
     pub start: usize,
@@ -31,33 +31,17 @@ fn goes_on(before: u32, word: u32) -> bool
     }
 }
 
-fn kind_of(word: u32) -> Kind
-    ensures value { result ≡ kind_of word }
-{
-    let state = word / (1 << 30);
-    if state == 0 {
-        return Kind::Empty;
-    }
-    if state == 1 {
-        return Kind::Zeros;
-    }
-    Kind::Data(word % (1 << 30))
-}
+// What a word says of its cluster.
+impl From<u32> for Kind {
+    ghost from_gives = { λ word kind. kind ≡ kind_of word };
 
-// How far the run goes that begins at `start`.
-fn run_length(words: &[u32], start: usize) -> usize
-    requires { start < length words.now }
-    ensures some { 1 ≤ result }
-    ensures within { start + result ≤ length words.now }
-    ensures alike { (k : ℕ) → start < k → k < start + result → goes_on (slice_index words.now (k - 1)) (slice_index words.now k) ≡ true }
-    ensures most { start + result < length words.now → goes_on (slice_index words.now (start + result - 1)) (slice_index words.now (start + result)) ≡ false }
-{
-    for i in start + 1..words.len() {
-        if !goes_on(words[i - 1], words[i]) {
-            return i - start;
+    fn from(word: u32) -> Kind {
+        match word / (1 << 30) {
+            0 => Kind::Empty,
+            1 => Kind::Zeros,
+            _ => Kind::Data(word % (1 << 30)),
         }
     }
-    words.len() - start
 }
 
 // The longest run that begins at a guest cluster; none past the last.
@@ -67,14 +51,13 @@ pub fn run_at(words: &[u32], start: usize) -> Option<Run>
     ensures alike { IfSome result (λ run. (k : ℕ) → start < k → k < start + run.length → goes_on (slice_index words.now (k - 1)) (slice_index words.now k) ≡ true) }
     ensures most { IfSome result (λ run. start + run.length < length words.now → goes_on (slice_index words.now (start + run.length - 1)) (slice_index words.now (start + run.length)) ≡ false) }
 {
-    if start >= words.len() {
-        return None;
-    }
-    let kind = kind_of(words[start]);
-    let length = run_length(words, start);
+    let rest = words.get(start..)?;
+    let run = rest
+        .chunk_by(|before, word| goes_on(*before, *word))
+        .next()?;
     Some(Run {
         start,
-        length,
-        kind,
+        length: run.len(),
+        kind: Kind::from(run[0]),
     })
 }

@@ -1,2 +1,3 @@
+mod Listing
 mod Parting
 pub mod ReadBack

@@ -1,48 +1,56 @@
--- How a line falls into words, letter by letter. Assumes nothing.
---   part   the letters from a place up to another
-use Rattle.std.proofs.Common.{◌≡◌, ℕ, zero, suc, ◌+◌, ◌-◌, ◌<◌, ◌≤◌, true, false, List, [], ◌∷◌, ◌++◌, length, get_or, take, drop, Option, sym, refl, ap, ◌∙◌, arith, length-drop, length-take}
-use Rattle.std.proofs.lemmas.List.Edits.{between_none, between_more}
-use Rattle.std.proofs.lemmas.List.{at_drop_more}
-use Rattle.std.proofs.lemmas.Bool.{cond-true, cond-false}
-use Rattle.text.specs.Words.{white, begun, parted, nth}
+-- How a line falls into words. Assumes nothing.
+--   lettered   whether a part has letters
+--   onto       letters before the first part
+use Rattle.std.proofs.Common.{◌≡◌, ℕ, zero, suc, ◌+◌, Bool, true, false, cond, eqb, not, List, [], ◌∷◌, ◌++◌, length, take, sym, refl, ap, ◌∙◌, append_assoc, arith}
+use Rattle.std.proofs.lemmas.Bool.{ne_eqb}
+use Rattle.std.proofs.lemmas.List.{append-nil}
+use Rattle.std.specs.List.{filter, onto_first, position_or_len, slice_get, slice_split}
+use Rattle.text.specs.Words.{white, begun, code, parted, nth}
 
-abbrev pub part : List ℕ → ℕ → ℕ → List ℕ
-part xs start i = take (i - start) (drop start xs)
+abbrev pub lettered : List ℕ → Bool
+lettered w = not (eqb (length w) 0)
 
--- the word that is looked for, once the letters from a place on belong to the word that is begun
-abbrev pub sought : List ℕ → ℕ → ℕ → ℕ → Option (List ℕ)
-sought xs before start i = nth before (parted (part xs start i) (drop i xs))
+abbrev onto : List ℕ → List (List ℕ) → List (List ℕ)
+onto w [] = w ∷ []
+onto w (p ∷ ps) = (w ++ p) ∷ ps
 
-begun_some : (w : List ℕ) → 0 < length w → begun w ≡ w ∷ []
-begun_some [] lt = absurd (omega arith)
-begun_some (c ∷ w) lt = refl
+code_step : (t : Bool) (b : ℕ) (bs : List ℕ) (n : ℕ) → code bs ≡ take n bs → cond t [] (b ∷ code bs) ≡ take (cond (not t) (1 + n) 0) (b ∷ bs)
+code_step true b bs n e = refl
+code_step false b bs n e = let next : 1 + n ≡ suc n = omega arith in ap (λ l. b ∷ l) e ∙ ap (λ k. take k (b ∷ bs)) (sym next)
 
-nth_later : (n : ℕ) (w : List ℕ) (ws : List (List ℕ)) → (n ≡ 0 → ⊥) → nth n (w ∷ ws) ≡ nth (n - 1) ws
-nth_later zero w ws ne = absurd (ne refl)
-nth_later (suc n) w ws ne = ap (λ k. nth k ws) (omega arith)
+pub code_before : (l : List ℕ) → code l ≡ take (position_or_len (λ b. eqb b 35) l) l
+code_before [] = refl
+code_before (b ∷ bs) = code_step (eqb b 35) b bs (position_or_len (λ b. eqb b 35) bs) (code_before bs)
 
-module _ (xs : List ℕ) (start i before : ℕ) where
-  empty_part : i ≤ start → part xs start i ≡ []
-  empty_part le = let none : i - start ≡ 0 = omega arith in ap (λ k. take k (drop start xs)) none
+first_kept : (t : Bool) (b : ℕ) (ps : List (List ℕ)) → onto [] (cond t ([] ∷ ps) (onto_first b ps)) ≡ cond t ([] ∷ ps) (onto_first b ps)
+first_kept true b ps = refl
+first_kept false b [] = refl
+first_kept false b (p ∷ ps) = refl
 
-  some_part : start < i → i ≤ length xs → begun (part xs start i) ≡ part xs start i ∷ []
-  some_part lt le = begun_some (part xs start i) (simp (length-take, length-drop) (omega arith))
+onto_none : (bs : List ℕ) → onto [] (slice_split white bs) ≡ slice_split white bs
+onto_none [] = refl
+onto_none (b ∷ bs) = first_kept (white b) b (slice_split white bs)
 
-  -- at white space the word that is begun ends
-  white_here : i < length xs → white (get_or xs i 0) ≡ true → sought xs before start i ≡ nth before (begun (part xs start i) ++ parted [] (drop (i + 1) xs))
-  white_here lt w = ap (nth before) (at_drop_more (parted (part xs start i)) xs i 0 lt ∙ cond-true (white (get_or xs i 0)) (begun (part xs start i) ++ parted [] (drop (i + 1) xs)) (parted (part xs start i ++ get_or xs i 0 ∷ []) (drop (i + 1) xs)) w)
+onto_more : (w : List ℕ) (b : ℕ) (ps : List (List ℕ)) → onto (w ++ b ∷ []) ps ≡ onto w (onto_first b ps)
+onto_more w b [] = refl
+onto_more w b (p ∷ ps) = ap (λ l. l ∷ ps) (append_assoc w (b ∷ []) p)
 
-  fresh : nth before (parted [] (drop (i + 1) xs)) ≡ sought xs before (i + 1) (i + 1)
-  fresh = sym (ap (λ w. nth before (parted w (drop (i + 1) xs))) (between_none xs (i + 1)))
+kept : (w : List ℕ) (ps : List (List ℕ)) → begun w ++ ps ≡ cond (lettered (w ++ [])) ((w ++ []) ∷ ps) ps
+kept [] ps = refl
+kept (c ∷ w) ps = ap (λ l. (c ∷ l) ∷ ps) (sym (append-nil w)) ∙ ap (λ t. cond (not t) ((c ∷ (w ++ [])) ∷ ps) ps) (sym (ne_eqb (length (c ∷ (w ++ []))) 0 (λ e. absurd (omega arith))))
 
-  pub skipped : i ≤ start → i < length xs → white (get_or xs i 0) ≡ true → sought xs before (i + 1) (i + 1) ≡ sought xs before start i
-  skipped le lt w = sym (white_here lt w ∙ ap (λ l. nth before (begun l ++ parted [] (drop (i + 1) xs))) (empty_part le) ∙ fresh)
+split_step : (t : Bool) (w : List ℕ) (b : ℕ) (bs : List ℕ) (ps : List (List ℕ)) → parted [] bs ≡ filter lettered ps → parted (w ++ b ∷ []) bs ≡ filter lettered (onto (w ++ b ∷ []) ps) → cond t (begun w ++ parted [] bs) (parted (w ++ b ∷ []) bs) ≡ filter lettered (onto w (cond t ([] ∷ ps) (onto_first b ps)))
+split_step true w b bs ps e f = ap (λ l. begun w ++ l) e ∙ kept w (filter lettered ps)
+split_step false w b bs ps e f = f ∙ ap (filter lettered) (onto_more w b ps)
 
-  pub lettered : start ≤ i → i < length xs → white (get_or xs i 0) ≡ false → sought xs before start (i + 1) ≡ sought xs before start i
-  lettered le lt w =
-      ap (λ l. nth before (parted l (drop (i + 1) xs))) (between_more xs start i 0 le lt)
-      ∙ sym (ap (nth before) (at_drop_more (parted (part xs start i)) xs i 0 lt ∙ cond-false (white (get_or xs i 0)) (begun (part xs start i) ++ parted [] (drop (i + 1) xs)) (parted (part xs start i ++ get_or xs i 0 ∷ []) (drop (i + 1) xs)) w))
+split_on : (w bs : List ℕ) → parted w bs ≡ filter lettered (onto w (slice_split white bs))
+split_on w [] = sym (append-nil (begun w)) ∙ kept w []
+split_on w (b ∷ bs) = split_step (white b) w b bs (slice_split white bs) (split_on [] bs ∙ ap (filter lettered) (onto_none bs)) (split_on (w ++ b ∷ []) bs)
 
-pub passed : (xs : List ℕ) (start i before : ℕ) → start < i → i < length xs → white (get_or xs i 0) ≡ true → (before ≡ 0 → ⊥) → sought xs (before - 1) (i + 1) (i + 1) ≡ sought xs before start i
-passed xs start i before lt le w ne =
-    sym (white_here xs start i before le w ∙ ap (λ ws. nth before (ws ++ parted [] (drop (i + 1) xs))) (some_part xs start i before lt (omega arith)) ∙ nth_later before (part xs start i) (parted [] (drop (i + 1) xs)) ne ∙ fresh xs start i (before - 1))
+pub words_split : (bs : List ℕ) → parted [] bs ≡ filter lettered (slice_split white bs)
+words_split bs = split_on [] bs ∙ ap (filter lettered) (onto_none bs)
+
+pub nth_get : (n : ℕ) (ws : List (List ℕ)) → slice_get ws n ≡ nth n ws
+nth_get n [] = refl
+nth_get zero (w ∷ ws) = refl
+nth_get (suc n) (w ∷ ws) = nth_get n ws

@@ -1,4 +1,5 @@
 -- The values that words spell. Assumes nothing.
+--   Tells        an answer gives what words spell, or says that they spell nothing; it may be that there was no memory
 --   opt_then     a value after another, or none
 --   gathered     the values of a word, where each letter leads to a state and may complete a value, and the end may too
 --   within       whether a number lies between two
@@ -16,12 +17,17 @@
 --   may_end      whether a word may end where this comes next
 --   spelled      the bytes that a word spells: two digits for each, or each as itself unless a '%' comes before two digits
 --   hex_bytes    the bytes that a word of digits spells
-use Rattle.std.specs.Prelude.{ℕ, ◌+◌, ◌-◌, ◌*◌, ◌^◌, Bool, true, false, cond, ◌&&◌, List, [], ◌∷◌, ◌++◌, Some, None, Option, ◌==◌, nat_le, nat_lt}
+use Rattle.std.specs.Prelude.{◌≡◌, ℕ, ◌+◌, ◌-◌, ◌*◌, ◌^◌, Bool, true, false, cond, ◌&&◌, List, [], ◌∷◌, ◌++◌, Some, None, Option, ◌==◌, nat_le, nat_lt, Result, MatchResult}
 use Rattle.std.specs.Option.{unwrap_or, option_to_list}
 use Rattle.text.specs.declared.values.Form.{Form}
 use Rattle.text.specs.declared.values.Form.TheVariants.{Hexadecimal, Plain}
+use Rattle.text.specs.declared.values.Misread.{Misread}
+use Rattle.text.specs.declared.values.Misread.TheVariants.{Misspelt}
 use Rattle.text.specs.declared.values.Next.{Next}
 use Rattle.text.specs.declared.values.Next.TheVariants.{Letter, High, Low}
+
+abbrev pub Tells : {T X : Type 0} → Result T Misread → (T → X) → Option X → Type 0
+Tells r view o = MatchResult r (λ x. Some (view x) ≡ o) (λ e. e ≡ Misspelt → None ≡ o)
 
 abbrev pub opt_then : {X Y : Type 0} → Option X → (X → Option Y) → Option Y
 opt_then None f = None

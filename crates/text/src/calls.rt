@@ -3,12 +3,14 @@ ghost use Rattle.std.specs.Prelude.{◌≡◌, IfOk, vec_items};
 ghost use Rattle.std.specs.Option.{option_map};
 ghost use Rattle.text.specs.declared.verbs.Verb.TheVariants as verbs;
 ghost use Rattle.text.specs.Words.{words};
+ghost use Rattle.text.specs.Values.{Tells};
 ghost use Rattle.text.specs.Calls.{meant, number_at, number_or, bytes_at, bytes_or, numbers_at, parsed, heard};
 
-use crate::values::{Form, number, numbers, spelled};
+use crate::values::{Form, Misread, number, numbers, spelled};
 use crate::verbs::{Verb, verb_of};
 use crate::words::word;
 use std::alloc::{AllocError, Global};
+use std::marker::Model;
 
 // A call with its arguments, or a line that is none, with words that say so.
 #[derive(Drop)]
@@ -75,230 +77,208 @@ pub enum Call {
     Mistake(&'static str),
 }
 
-fn number_at(line: &[u8], i: usize) -> Option<u64>
-    ensures value { result ≡ number_at (words line.now) i }
-{
-    number(word(line, i)?)
+// A line, and where what its words spell is kept.
+// A contract sees its words.
+#[derive(Drop)]
+struct Line<'a> {
+    heap: Global,
+    text: &'a [u8],
 }
 
-// A number that may be left out.
-fn number_or(line: &[u8], i: usize, otherwise: u64) -> Option<u64>
-    ensures value { result ≡ number_or (words line.now) i otherwise }
-{
-    match word(line, i) {
-        Some(w) => number(w),
-        None => Some(otherwise),
+impl<'a> Model for Line<'a> {
+    ghost use Rattle.std.specs.Prelude.{ℕ, List};
+    ghost use Rattle.text.specs.Words.{words};
+
+    ghost Value = { List (List ℕ) };
+
+    ghost view = { λ line. words line.text.now };
+}
+
+impl Line<'_> {
+    fn number(&self, i: usize) -> Result<u64, Misread>
+        ensures value { Tells result (λ n. n) (number_at self.now i) }
+    {
+        number(word(self.text, i).ok_or(Misread::Misspelt)?)
     }
-}
 
-fn bytes_at(heap: Global, line: &[u8], i: usize, form: Form) -> Result<Option<Vec<u8>>, AllocError>
-    ensures value { IfOk result (λ o. option_map vec_items o ≡ bytes_at (words line.now) i form) }
-{
-    match word(line, i) {
-        Some(w) => spelled(heap, w, form),
-        None => Ok(None),
+    // A number that may be left out.
+    fn number_or(&self, i: usize, otherwise: u64) -> Result<u64, Misread>
+        ensures value { Tells result (λ n. n) (number_or self.now i otherwise) }
+    {
+        match word(self.text, i) {
+            Some(w) => number(w),
+            None => Ok(otherwise),
+        }
     }
-}
 
-// Bytes that are left out are none.
-fn bytes_or(heap: Global, line: &[u8], i: usize) -> Result<Option<Vec<u8>>, AllocError>
-    ensures value { IfOk result (λ o. option_map vec_items o ≡ bytes_or (words line.now) i) }
-{
-    match word(line, i) {
-        Some(w) => spelled(heap, w, Form::Hexadecimal),
-        None => Ok(Some(Vec::new(heap))),
+    fn bytes(&self, i: usize, form: Form) -> Result<Vec<u8>, Misread>
+        ensures value { Tells result vec_items (bytes_at self.now i form) }
+    {
+        let w = word(self.text, i).ok_or(Misread::Misspelt)?;
+        spelled(self.heap, w, form)
     }
-}
 
-fn numbers_at(heap: Global, line: &[u8], i: usize) -> Result<Option<Vec<u64>>, AllocError>
-    ensures value { IfOk result (λ o. option_map vec_items o ≡ numbers_at (words line.now) i) }
-{
-    match word(line, i) {
-        Some(w) => numbers(heap, w),
-        None => Ok(None),
+    // Bytes that are left out are none.
+    fn bytes_or(&self, i: usize) -> Result<Vec<u8>, Misread>
+        ensures value { Tells result vec_items (bytes_or self.now i) }
+    {
+        match word(self.text, i) {
+            Some(w) => spelled(self.heap, w, Form::Hexadecimal),
+            None => Ok(Vec::new(self.heap)),
+        }
     }
-}
 
-fn store_flat(heap: Global, line: &[u8]) -> Result<Option<Call>, AllocError>
-    ensures value { IfOk result (λ o. option_map meant o ≡ parsed verbs.StoreFlat (words line.now)) }
-{
-    let Some(limit) = number_at(line, 1) else {
-        return Ok(None);
-    };
-    let Some(content) = bytes_or(heap, line, 2)? else {
-        return Ok(None);
-    };
-    Ok(Some(Call::StoreFlat { limit, content }))
-}
+    fn numbers(&self, i: usize) -> Result<Vec<u64>, Misread>
+        ensures value { Tells result vec_items (numbers_at self.now i) }
+    {
+        let w = word(self.text, i).ok_or(Misread::Misspelt)?;
+        numbers(self.heap, w)
+    }
 
-fn store_split(heap: Global, line: &[u8]) -> Result<Option<Call>, AllocError>
-    ensures value { IfOk result (λ o. option_map meant o ≡ parsed verbs.StoreSplit (words line.now)) }
-{
-    let Some(first) = number_at(line, 1) else {
-        return Ok(None);
-    };
-    let Some(second) = number_at(line, 2) else {
-        return Ok(None);
-    };
-    let Some(content) = bytes_or(heap, line, 3)? else {
-        return Ok(None);
-    };
-    Ok(Some(Call::StoreSplit {
-        first,
-        second,
-        content,
-    }))
-}
+    fn store_flat(&self) -> Result<Call, Misread>
+        ensures value { Tells result meant (parsed verbs.StoreFlat self.now) }
+    {
+        let limit = self.number(1)?;
+        let content = self.bytes_or(2)?;
+        Ok(Call::StoreFlat { limit, content })
+    }
 
-fn store_read(line: &[u8]) -> Option<Call>
-    ensures value { option_map meant result ≡ parsed verbs.StoreRead (words line.now) }
-{
-    let first = number_at(line, 1)?;
-    let count = number_at(line, 2)?;
-    Some(Call::StoreRead { first, count })
-}
+    fn store_split(&self) -> Result<Call, Misread>
+        ensures value { Tells result meant (parsed verbs.StoreSplit self.now) }
+    {
+        let first = self.number(1)?;
+        let second = self.number(2)?;
+        let content = self.bytes_or(3)?;
+        Ok(Call::StoreSplit {
+            first,
+            second,
+            content,
+        })
+    }
 
-fn store_replace(heap: Global, line: &[u8]) -> Result<Option<Call>, AllocError>
-    ensures value { IfOk result (λ o. option_map meant o ≡ parsed verbs.StoreReplace (words line.now)) }
-{
-    let Some(first) = number_at(line, 1) else {
-        return Ok(None);
-    };
-    let Some(new) = bytes_at(heap, line, 2, Form::Hexadecimal)? else {
-        return Ok(None);
-    };
-    Ok(Some(Call::StoreReplace { first, new }))
-}
+    fn store_read(&self) -> Result<Call, Misread>
+        ensures value { Tells result meant (parsed verbs.StoreRead self.now) }
+    {
+        let first = self.number(1)?;
+        let count = self.number(2)?;
+        Ok(Call::StoreRead { first, count })
+    }
 
-fn store_grow(line: &[u8]) -> Option<Call>
-    ensures value { option_map meant result ≡ parsed verbs.StoreGrow (words line.now) }
-{
-    let length = number_at(line, 1)?;
-    Some(Call::StoreGrow { length })
-}
+    fn store_replace(&self) -> Result<Call, Misread>
+        ensures value { Tells result meant (parsed verbs.StoreReplace self.now) }
+    {
+        let first = self.number(1)?;
+        let new = self.bytes(2, Form::Hexadecimal)?;
+        Ok(Call::StoreReplace { first, new })
+    }
 
-fn disk_zeros(line: &[u8]) -> Option<Call>
-    ensures value { option_map meant result ≡ parsed verbs.DiskZeros (words line.now) }
-{
-    let sectors = number_at(line, 1)?;
-    Some(Call::DiskZeros { sectors })
-}
+    fn store_grow(&self) -> Result<Call, Misread>
+        ensures value { Tells result meant (parsed verbs.StoreGrow self.now) }
+    {
+        let length = self.number(1)?;
+        Ok(Call::StoreGrow { length })
+    }
 
-fn disk_raw(heap: Global, line: &[u8]) -> Result<Option<Call>, AllocError>
-    ensures value { IfOk result (λ o. option_map meant o ≡ parsed verbs.DiskRaw (words line.now)) }
-{
-    let Some(content) = bytes_at(heap, line, 1, Form::Hexadecimal)? else {
-        return Ok(None);
-    };
-    Ok(Some(Call::DiskRaw { content }))
-}
+    fn disk_zeros(&self) -> Result<Call, Misread>
+        ensures value { Tells result meant (parsed verbs.DiskZeros self.now) }
+    {
+        let sectors = self.number(1)?;
+        Ok(Call::DiskZeros { sectors })
+    }
 
-fn disk_rescued(heap: Global, line: &[u8]) -> Result<Option<Call>, AllocError>
-    ensures value { IfOk result (λ o. option_map meant o ≡ parsed verbs.DiskRescued (words line.now)) }
-{
-    let Some(content) = bytes_at(heap, line, 1, Form::Hexadecimal)? else {
-        return Ok(None);
-    };
-    let Some(spoiled) = numbers_at(heap, line, 2)? else {
-        return Ok(None);
-    };
-    Ok(Some(Call::DiskRescued { content, spoiled }))
-}
+    fn disk_raw(&self) -> Result<Call, Misread>
+        ensures value { Tells result meant (parsed verbs.DiskRaw self.now) }
+    {
+        let content = self.bytes(1, Form::Hexadecimal)?;
+        Ok(Call::DiskRaw { content })
+    }
 
-fn disk_read(line: &[u8]) -> Option<Call>
-    ensures value { option_map meant result ≡ parsed verbs.DiskRead (words line.now) }
-{
-    let sector = number_at(line, 1)?;
-    Some(Call::DiskRead { sector })
-}
+    fn disk_rescued(&self) -> Result<Call, Misread>
+        ensures value { Tells result meant (parsed verbs.DiskRescued self.now) }
+    {
+        let content = self.bytes(1, Form::Hexadecimal)?;
+        let spoiled = self.numbers(2)?;
+        Ok(Call::DiskRescued { content, spoiled })
+    }
 
-fn create(heap: Global, line: &[u8]) -> Result<Option<Call>, AllocError>
-    ensures value { IfOk result (λ o. option_map meant o ≡ parsed verbs.Create (words line.now)) }
-{
-    let Some(version) = number_at(line, 1) else {
-        return Ok(None);
-    };
-    let Some(bits) = number_at(line, 2) else {
-        return Ok(None);
-    };
-    let Some(size) = number_at(line, 3) else {
-        return Ok(None);
-    };
-    let Some(name) = bytes_at(heap, line, 4, Form::Plain)? else {
-        return Ok(None);
-    };
-    Ok(Some(Call::Create {
-        version,
-        bits,
-        size,
-        name,
-    }))
-}
+    fn disk_read(&self) -> Result<Call, Misread>
+        ensures value { Tells result meant (parsed verbs.DiskRead self.now) }
+    {
+        let sector = self.number(1)?;
+        Ok(Call::DiskRead { sector })
+    }
 
-fn read(line: &[u8]) -> Option<Call>
-    ensures value { option_map meant result ≡ parsed verbs.Read (words line.now) }
-{
-    let sector = number_at(line, 1)?;
-    let length = number_or(line, 2, 512)?;
-    Some(Call::Read { sector, length })
-}
+    fn create(&self) -> Result<Call, Misread>
+        ensures value { Tells result meant (parsed verbs.Create self.now) }
+    {
+        let version = self.number(1)?;
+        let bits = self.number(2)?;
+        let size = self.number(3)?;
+        let name = self.bytes(4, Form::Plain)?;
+        Ok(Call::Create {
+            version,
+            bits,
+            size,
+            name,
+        })
+    }
 
-fn peek(heap: Global, line: &[u8]) -> Result<Option<Call>, AllocError>
-    ensures value { IfOk result (λ o. option_map meant o ≡ parsed verbs.Peek (words line.now)) }
-{
-    let Some(id) = bytes_at(heap, line, 1, Form::Plain)? else {
-        return Ok(None);
-    };
-    let Some(sector) = number_at(line, 2) else {
-        return Ok(None);
-    };
-    let Some(length) = number_or(line, 3, 512) else {
-        return Ok(None);
-    };
-    Ok(Some(Call::Peek { id, sector, length }))
-}
+    fn read(&self) -> Result<Call, Misread>
+        ensures value { Tells result meant (parsed verbs.Read self.now) }
+    {
+        let sector = self.number(1)?;
+        let length = self.number_or(2, 512)?;
+        Ok(Call::Read { sector, length })
+    }
 
-fn map(heap: Global, line: &[u8]) -> Result<Option<Call>, AllocError>
-    ensures value { IfOk result (λ o. option_map meant o ≡ parsed verbs.Map (words line.now)) }
-{
-    let Some(id) = bytes_at(heap, line, 1, Form::Plain)? else {
-        return Ok(None);
-    };
-    let Some(words) = number_at(line, 2) else {
-        return Ok(None);
-    };
-    Ok(Some(Call::Map { id, words }))
-}
+    fn peek(&self) -> Result<Call, Misread>
+        ensures value { Tells result meant (parsed verbs.Peek self.now) }
+    {
+        let id = self.bytes(1, Form::Plain)?;
+        let sector = self.number(2)?;
+        let length = self.number_or(3, 512)?;
+        Ok(Call::Peek { id, sector, length })
+    }
 
-fn check(line: &[u8]) -> Option<Call>
-    ensures value { option_map meant result ≡ parsed verbs.Check (words line.now) }
-{
-    let words = number_at(line, 1)?;
-    Some(Call::Check { words })
-}
+    fn map(&self) -> Result<Call, Misread>
+        ensures value { Tells result meant (parsed verbs.Map self.now) }
+    {
+        let id = self.bytes(1, Form::Plain)?;
+        let words = self.number(2)?;
+        Ok(Call::Map { id, words })
+    }
 
-fn parse(heap: Global, verb: Verb, line: &[u8]) -> Result<Option<Call>, AllocError>
-    ensures value { IfOk result (λ o. option_map meant o ≡ parsed verb (words line.now)) }
-{
-    match verb {
-        Verb::StoreFlat => store_flat(heap, line),
-        Verb::StoreSplit => store_split(heap, line),
-        Verb::StoreLength => Ok(Some(Call::StoreLength)),
-        Verb::StoreLimit => Ok(Some(Call::StoreLimit)),
-        Verb::StoreRead => Ok(store_read(line)),
-        Verb::StoreReplace => store_replace(heap, line),
-        Verb::StoreGrow => Ok(store_grow(line)),
-        Verb::DiskZeros => Ok(disk_zeros(line)),
-        Verb::DiskRaw => disk_raw(heap, line),
-        Verb::DiskRescued => disk_rescued(heap, line),
-        Verb::DiskSectors => Ok(Some(Call::DiskSectors)),
-        Verb::DiskRead => Ok(disk_read(line)),
-        Verb::Create => create(heap, line),
-        Verb::Mount => Ok(Some(Call::Mount)),
-        Verb::Read => Ok(read(line)),
-        Verb::Peek => peek(heap, line),
-        Verb::Map => map(heap, line),
-        Verb::Check => Ok(check(line)),
+    fn check(&self) -> Result<Call, Misread>
+        ensures value { Tells result meant (parsed verbs.Check self.now) }
+    {
+        let words = self.number(1)?;
+        Ok(Call::Check { words })
+    }
+
+    // The call of a verb that these words make.
+    fn call(&self, verb: Verb) -> Result<Call, Misread>
+        ensures value { Tells result meant (parsed verb self.now) }
+    {
+        match verb {
+            Verb::StoreFlat => self.store_flat(),
+            Verb::StoreSplit => self.store_split(),
+            Verb::StoreLength => Ok(Call::StoreLength),
+            Verb::StoreLimit => Ok(Call::StoreLimit),
+            Verb::StoreRead => self.store_read(),
+            Verb::StoreReplace => self.store_replace(),
+            Verb::StoreGrow => self.store_grow(),
+            Verb::DiskZeros => self.disk_zeros(),
+            Verb::DiskRaw => self.disk_raw(),
+            Verb::DiskRescued => self.disk_rescued(),
+            Verb::DiskSectors => Ok(Call::DiskSectors),
+            Verb::DiskRead => self.disk_read(),
+            Verb::Create => self.create(),
+            Verb::Mount => Ok(Call::Mount),
+            Verb::Read => self.read(),
+            Verb::Peek => self.peek(),
+            Verb::Map => self.map(),
+            Verb::Check => self.check(),
+        }
     }
 }
 
@@ -312,8 +292,9 @@ pub fn call_of(heap: Global, line: &[u8]) -> Result<Option<Call>, AllocError>
     let Some(verb) = verb_of(name) else {
         return Ok(Some(Call::Mistake("unknown word")));
     };
-    match parse(heap, verb, line)? {
-        Some(call) => Ok(Some(call)),
-        None => Ok(Some(Call::Mistake(verb.usage()))),
+    match (Line { heap, text: line }).call(verb) {
+        Ok(call) => Ok(Some(call)),
+        Err(Misread::Misspelt) => Ok(Some(Call::Mistake(verb.usage()))),
+        Err(Misread::OutOfMemory(e)) => Err(e),
     }
 }

@@ -1,86 +1,73 @@
 // The values that words spell: numbers, bytes, texts, lists of numbers.
-ghost use Rattle.std.specs.Prelude.{◌≡◌, ◌<◌, IfSome, IfOk, vec_items};
-ghost use Rattle.std.specs.Option.{option_map};
-ghost use Rattle.text.specs.Values.{digit_more, number as number_of, counted as counted_of, numbers as numbers_of, dash, nibble, octet as octet_of, first as first_of, may_end, turned as turned_of, spelled as spelled_of};
+ghost use Rattle.std.specs.Prelude.{◌≡◌, ◌<◌, Some, IfSome, vec_items, alloc_error};
+ghost use Rattle.text.specs.declared.values.Misread.TheVariants.{OutOfMemory};
+ghost use Rattle.text.specs.Values.{Tells, digit_more, number as number_of, numbers as numbers_of, dash, nibble, octet as octet_of, first as first_of, may_end, turned as turned_of, spelled as spelled_of};
 
-use std::alloc::{AllocError, Global};
+use std::alloc::{AllocError, AllocFailed, Global};
 
-// The number that is begun, with one digit more; none past 64 bits.
-fn digit_more(begun: Option<u64>, c: u8) -> Option<u64>
-    ensures value { result ≡ digit_more begun c }
-{
-    if c < b'0' || c > b'9' {
-        return None;
+// Why words gave no value.
+#[derive(Drop)]
+pub(crate) enum Misread {
+    // they spell none
+    Misspelt,
+    OutOfMemory(AllocError),
+}
+
+impl<T: Drop> From<AllocFailed<T>> for Misread {
+    ghost from_gives = { λ _ e. e ≡ OutOfMemory alloc_error };
+
+    fn from(e: AllocFailed<T>) -> Misread {
+        Misread::OutOfMemory(AllocError::from(e))
     }
-    begun
-        .unwrap_or(0)
-        .checked_mul(10)?
-        .checked_add(u64::from(c - b'0'))
+}
+
+// A number with one digit more; none past 64 bits.
+fn digit_more(n: u64, c: u8) -> Option<u64>
+    ensures value { result ≡ digit_more (Some n) c }
+{
+    let digit = char::from(c).to_digit(10)?;
+    n.checked_mul(10)?.checked_add(u64::from(digit))
 }
 
 // A decimal number of at most 64 bits.
-pub(crate) fn number(word: &[u8]) -> Option<u64>
-    ensures value { result ≡ number_of word.now }
+pub(crate) fn number(word: &[u8]) -> Result<u64, Misread>
+    ensures value { Tells result (λ n. n) (number_of word.now) }
 {
-    let mut n = None;
-    for c in word {
-        n = Some(digit_more(n, *c)?);
+    if word.is_empty() {
+        return Err(Misread::Misspelt);
     }
-    n
+    let mut n = 0;
+    for c in word {
+        n = digit_more(n, *c).ok_or(Misread::Misspelt)?;
+    }
+    Ok(n)
 }
 
 fn is_dash(word: &[u8]) -> bool
     ensures value { result ≡ dash word.now }
 {
-    word.len() == 1 && word[0] == b'-'
-}
-
-// The number that is begun after a letter, and the one that the letter ends.
-fn counted(begun: Option<u64>, c: u8) -> Option<(Option<u64>, Option<u64>)>
-    ensures value { result ≡ counted_of begun c }
-{
-    if c == b',' {
-        Some((None, Some(begun?)))
-    } else {
-        Some((Some(digit_more(begun, c)?), None))
-    }
+    matches!(word, b"-")
 }
 
 // Numbers with commas between them, `-` for none.
-pub(crate) fn numbers(heap: Global, word: &[u8]) -> Result<Option<Vec<u64>>, AllocError>
-    ensures value { IfOk result (λ o. option_map vec_items o ≡ numbers_of word.now) }
+pub(crate) fn numbers(heap: Global, word: &[u8]) -> Result<Vec<u64>, Misread>
+    ensures value { Tells result vec_items (numbers_of word.now) }
 {
     let mut all = Vec::new(heap);
     if is_dash(word) {
-        return Ok(Some(all));
+        return Ok(all);
     }
-    let mut begun = None;
-    for c in word {
-        let Some((after, number)) = counted(begun, *c) else {
-            return Ok(None);
-        };
-        if let Some(n) = number {
-            all.push(n)?;
-        }
-        begun = after;
+    for part in word.split(|c| *c == b',') {
+        all.push(number(part)?)?;
     }
-    let Some(last) = begun else {
-        return Ok(None);
-    };
-    all.push(last)?;
-    Ok(Some(all))
+    Ok(all)
 }
 
-fn nibble_of(c: u8) -> Option<u8>
+fn nibble_of(c: u8) -> Option<u32>
     ensures value { result ≡ nibble c }
     ensures small { IfSome result (λ d. d < 16) }
 {
-    match c {
-        b'0'..=b'9' => Some(c - b'0'),
-        b'a'..=b'f' => Some(c - b'a' + 10),
-        b'A'..=b'F' => Some(c - b'A' + 10),
-        _ => None,
-    }
+    char::from(c).to_digit(16)
 }
 
 // How a word spells bytes: each by two hexadecimal digits, or as itself unless a `%` comes before two digits.
@@ -111,11 +98,10 @@ fn first(form: Form) -> Next
 fn may_end(form: Form, next: Next) -> bool
     ensures value { result ≡ may_end form next }
 {
-    match (form, next) {
-        (Form::Hexadecimal, Next::High) => true,
-        (Form::Plain, Next::Letter) => true,
-        _ => false,
-    }
+    matches!(
+        (form, next),
+        (Form::Hexadecimal, Next::High) | (Form::Plain, Next::Letter)
+    )
 }
 
 fn octet(high: u8, low: u8) -> Option<u8>
@@ -123,7 +109,7 @@ fn octet(high: u8, low: u8) -> Option<u8>
 {
     let h = nibble_of(high)?;
     let l = nibble_of(low)?;
-    Some(h * 16 + l)
+    Some((h * 16 + l) as u8)
 }
 
 // What comes after a letter, and the byte that the letter completes.
@@ -144,26 +130,23 @@ fn turned(form: Form, next: Next, c: u8) -> Option<(Next, Option<u8>)>
 }
 
 // The bytes that a word spells, `-` for none.
-pub(crate) fn spelled(heap: Global, word: &[u8], form: Form) -> Result<Option<Vec<u8>>, AllocError>
-    ensures value { IfOk result (λ o. option_map vec_items o ≡ spelled_of form word.now) }
+pub(crate) fn spelled(heap: Global, word: &[u8], form: Form) -> Result<Vec<u8>, Misread>
+    ensures value { Tells result vec_items (spelled_of form word.now) }
 {
     let mut all = Vec::new(heap);
     if is_dash(word) {
-        return Ok(Some(all));
+        return Ok(all);
     }
     let mut next = first(form);
     for c in word {
-        let Some((after, byte)) = turned(form, next, *c) else {
-            return Ok(None);
-        };
+        let (after, byte) = turned(form, next, *c).ok_or(Misread::Misspelt)?;
         if let Some(b) = byte {
             all.push(b)?;
         }
         next = after;
     }
-    if may_end(form, next) {
-        Ok(Some(all))
-    } else {
-        Ok(None)
+    if !may_end(form, next) {
+        return Err(Misread::Misspelt);
     }
+    Ok(all)
 }

@@ -78,28 +78,13 @@ impl Verb {
     fn begins(self, name: &[u8]) -> bool
         ensures value { result ≡ begins_of self name.now }
     {
-        match word(self.usage().as_bytes(), 0) {
-            Some(first) => first == name,
-            None => false,
-        }
+        word(self.usage().as_bytes(), 0) == Some(name)
     }
-}
-
-// The first of these verbs that a word begins.
-fn first_of(verbs: &[Verb], name: &[u8]) -> Option<Verb>
-    ensures value { result ≡ verb_in verbs.now name.now }
-{
-    for v in verbs {
-        if v.begins(name) {
-            return Some(*v);
-        }
-    }
-    None
 }
 
 // The verb of a word.
 pub(crate) fn verb_of(name: &[u8]) -> Option<Verb>
     ensures value { result ≡ verb_in all_verbs name.now }
 {
-    first_of(&VERBS, name)
+    VERBS.iter().copied().find(|v| v.begins(name))
 }
