@@ -20,7 +20,6 @@ fn wrong<S: Store>(s: &S, n: Numbers, e: Entry) -> bool
 
 fn wrong_in<S: Store>(s: &S, n: Numbers, l2: u64, g: u64) -> u64
     ensures value { result ≡ wrong_in n (S.Store.bytes s.now) (l2_at n (S.Store.bytes s.now) l2 g) }
-    ensures most { result ≤ 1 }
 {
     match l2_at(s, n, l2, g) {
         Ok(e) => u64::from(wrong(s, n, e)),
@@ -31,20 +30,14 @@ fn wrong_in<S: Store>(s: &S, n: Numbers, l2: u64, g: u64) -> u64
 fn l2_wrong<S: Store>(s: &S, n: Numbers, l2: u64, first: u64) -> u64
     requires { first ≤ 2 ^ 62 }
     ensures value { result ≡ l2_wrong n (S.Store.bytes s.now) l2 first }
-    ensures most { result ≤ 2 ^ 18 }
 {
     let end = first + n.table_entries();
-    let mut found: u64 = 0;
-    for g in first..end {
-        found += wrong_in(s, n, l2, g);
-    }
-    found
+    (first..end).map(|g| wrong_in(s, n, l2, g)).sum()
 }
 
 fn branch_wrong<S: Store>(s: &S, n: Numbers, i: u64) -> u64
     requires { i ≤ 2 ^ 20 }
     ensures value { result ≡ branch_wrong n (S.Store.bytes s.now) i (l1_at n (S.Store.bytes s.now) n.l1 i) }
-    ensures most { result ≤ 2 ^ 18 + 1 }
 {
     let Ok(e) = l1_at(s, n, n.l1, i) else {
         return 0;
@@ -59,9 +52,5 @@ fn branch_wrong<S: Store>(s: &S, n: Numbers, i: u64) -> u64
 pub(crate) fn flags<S: Store>(s: &S, n: Numbers) -> u64
     ensures value { result ≡ flags_of n (S.Store.bytes s.now) }
 {
-    let mut found: u64 = 0;
-    for i in 0..l1_entries(n) {
-        found += branch_wrong(s, n, i);
-    }
-    found
+    (0..l1_entries(n)).map(|i| branch_wrong(s, n, i)).sum()
 }
