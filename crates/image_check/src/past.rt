@@ -42,13 +42,10 @@ fn past_named<S: Store>(s: &S, n: Numbers, i: u64) -> u64
     requires { i ≤ 2 ^ 24 }
     ensures value { result ≡ past_in n (S.Store.bytes s.now) i (block_at n (S.Store.bytes s.now) i) }
 {
-    let Ok(block) = block_at(s, n, i) else {
-        return 0;
-    };
-    if block == 0 {
-        return 0;
+    match block_at(s, n, i) {
+        Ok(0) | Err(_) => 0,
+        Ok(block) => past_in(s, n, i, block),
     }
-    past_in(s, n, i, block)
 }
 
 pub(crate) fn past_end<S: Store>(s: &S, n: Numbers) -> u64

@@ -13,4 +13,4 @@ overflow_add-result g c =
     let n = c.args.n in
     let bs = g.S.Store.bytes c.args.s.now in
     let e = c.in-Ok.e in
-    omega (arith, one_is _ _ _ c.from.ensures c.wrong.ensures.value, one_most (wrong n bs e), c.l2_wrong.ensures.value, l2_most n bs e.offset (c.args.i * c.table_entries.result))
+    omega (arith, one_is _ _ _ c.from-own.ensures c.wrong.ensures.value, one_most (wrong n bs e), c.l2_wrong.ensures.value, l2_most n bs e.offset (c.args.i * c.table_entries.result))
