@@ -1,8 +1,7 @@
 use Rattle.std.proofs.Common.{ℕ, ◌+◌, ◌-◌, ◌<◌, ◌≤◌, List, sym, ap, ◌∙◌, arith}
 use Rattle.tables.specs.Refcounts.{blocks}
 use Rattle.walk.specs.References.{Ref, gather, named_block, block_at}
-use Rattle.tally.specs.declared.filling.Pass.TheVariants.{Note}
-use Rattle.tally.specs.Filling.{all_touched}
+use Rattle.tally.specs.Filling.{Note, all_touched}
 use Rattle.tally.proofs.Touched.{gather_more, gather_none}
 use Rattle.tally.proofs.filling.touch_blocks.Goals as goal
 
