@@ -1,12 +1,8 @@
-use Rattle.std.proofs.Common.{◌*◌, ◌^◌, arith}
-use Rattle.std.proofs.lemmas.Nat.{mul-le}
+use Rattle.std.proofs.Common.{◌*◌, arith}
 use Rattle.image_check.specs.Totals.{wrong}
 use Rattle.image_check.proofs.Sums.{one_is, one_most}
 use Rattle.image_check.proofs.Bounds.{l2_most}
 use Rattle.image_check.proofs.flags.branch_wrong.Goals as goal
-
-pub l2_wrong-requires : goal.l2_wrong-requires
-l2_wrong-requires g c = omega (arith, mul-le c.args.i c.table_entries.result (2 ^ 20) (2 ^ 18) c.requires c.table_entries.ensures.most)
 
 pub overflow_add-result : goal.overflow_add-result
 overflow_add-result g c =
