@@ -1,4 +1,5 @@
 pub mod Sums
+pub mod Bounds
 pub mod Found
 pub mod Added
 pub mod Counted

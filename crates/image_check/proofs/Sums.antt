@@ -1,5 +1,12 @@
 -- Sums of numbers in a row. Assumes nothing.
-use Rattle.std.proofs.Common.{◌≡◌, ℕ, zero, suc, ◌+◌, ◌-◌, ◌<◌, ◌≤◌, Bool, true, false, refl, ap, ◌∙◌, inl, inr, arith}
+use Rattle.std.proofs.Common.{◌≡◌, ℕ, zero, suc, ◌+◌, ◌-◌, ◌*◌, ◌<◌, ◌≤◌, Bool, true, false, List, map, Option, suc-mul, refl, ap, ◌∙◌, inl, inr, arith}
+use Rattle.std.specs.Bool.{⊤}
+use Rattle.std.specs.List.{sum_by, range_with_len, fold}
+use Rattle.std.proofs.lemmas.List.Sums.{sum_by-cons}
+use Rattle.std.specs.Iterator.{Drains}
+use Rattle.std.specs.Iterator.Runs.{EachRunFrom}
+use Rattle.std.proofs.lemmas.Iterator.{YieldsList}
+use Rattle.std.proofs.lemmas.Iterator.Consumers.{sum_by_from_yields_List, fits_by_from_yields_list}
 use Rattle.std.specs.Int.{from_bool}
 use Rattle.std.proofs.lemmas.Bool.{cases_eq}
 use Rattle.image_check.specs.Totals.{sum, one}
@@ -11,6 +18,23 @@ module _ (f : ℕ → ℕ) (i e : ℕ) where
 
   pub sum_none : e ≤ i → sum f i (e - i) ≡ 0
   sum_none le = let h : e - i ≡ 0 = omega arith in ap (sum f i) h
+
+-- as the library has it, and at most so much
+pub sum_range : (f : ℕ → ℕ) (k i : ℕ) → sum_by f (range_with_len i k) ≡ sum f i k
+sum_range f zero i = refl
+sum_range f (suc k) i = sum_by-cons f i (range_with_len (i + 1) k) ∙ ap (λ x. f i + x) (sum_range f k (i + 1))
+
+pub sum_most : (f : ℕ → ℕ) (m : ℕ) → ((j : ℕ) → f j ≤ m) → (k i : ℕ) → sum f i k ≤ k * m
+sum_most f m h zero i = omega arith
+sum_most f m h (suc k) i = omega (arith, h i, sum_most f m h k (i + 1), suc-mul k m)
+
+-- a chain over a range that adds up: what it gives, and that it fits
+module _ {S : Type 0} {steps : S → Option ℕ → S → Type 0} (f : ℕ → ℕ) (i k : ℕ) (s : S) (road : YieldsList steps (λ x. x) s (map f (range_with_len i k))) where
+  pub sum_gives : (r : ℕ) → ((xs : List ℕ) × (⊤ → Drains steps s xs) × (r ≡ fold (λ a x. a + x) 0 xs)) → r ≡ sum f i k
+  sum_gives r ran = sum_by_from_yields_List f (range_with_len i k) s r ran road ∙ sum_range f k i
+
+  pub sum_fits : (top : ℕ) → sum f i k < top → EachRunFrom steps s (λ p. fold (λ a x. a + x) 0 p.items < top)
+  sum_fits top few = fits_by_from_yields_list f (range_with_len i k) s top road (omega (arith, sum_range f k i))
 
 -- of equal numbers
 pub sum_same : (f g : ℕ → ℕ) (k i : ℕ) → ((j : ℕ) → i ≤ j → j < i + k → f j ≡ g j) → sum f i k ≡ sum g i k

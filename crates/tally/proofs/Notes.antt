@@ -5,11 +5,9 @@ use Rattle.std.proofs.lemmas.Bool.{cond-true, cond-false, cases_eq, eq-eqb, ne_e
 use Rattle.walk.specs.declared.kinds.Kind.{Kind}
 use Rattle.walk.specs.declared.kinds.Kind.TheVariants.{Header, RefcountTable, Block, LiveL1, SnapshotTable, SnapshotL1, L2, Data}
 use Rattle.walk.specs.References.{Ref, kind_number}
-use Rattle.tally.specs.declared.filling.Pass.{Pass}
-use Rattle.tally.specs.declared.filling.Pass.TheVariants.{Note, Forget}
 use Rattle.tally.specs.Tally.{times, merged, kind_from}
 use Rattle.tally.specs.Words.{reached, packed, noted, unseen}
-use Rattle.tally.specs.Filling.{word_after, touched, all_touched}
+use Rattle.tally.specs.Filling.{Pass, Note, Forget, word_after, touched, all_touched}
 use Rattle.tally.proofs.Marks.{Fits, Named, noted_is, unseen_is, merged_fits, unseen_fits}
 
 -- one cluster's word after a list of references

@@ -1,8 +1,7 @@
 -- References noted one after another, in parts. Assumes nothing.
 use Rattle.std.proofs.Common.{◌≡◌, ℕ, suc, ◌+◌, ◌-◌, ◌<◌, ◌≤◌, List, [], ◌∷◌, ◌++◌, refl, ap, ◌∙◌, arith}
 use Rattle.walk.specs.References.{Ref, gather}
-use Rattle.tally.specs.declared.filling.Pass.{Pass}
-use Rattle.tally.specs.Filling.{touched, all_touched}
+use Rattle.tally.specs.Filling.{Pass, touched, all_touched}
 
 pub touched-append : (pass : Pass) (xs ys : List Ref) (words : List ℕ) → all_touched pass (xs ++ ys) words ≡ all_touched pass ys (all_touched pass xs words)
 touched-append pass [] ys words = refl

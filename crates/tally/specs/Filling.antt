@@ -9,9 +9,12 @@ use Rattle.snapshot.specs.declared.records.Snapshot.{Snapshot}
 use Rattle.walk.specs.declared.kinds.Kind.{Kind}
 use Rattle.walk.specs.declared.kinds.Kind.TheVariants.{Header, LiveL1, SnapshotL1}
 use Rattle.walk.specs.References.{Ref, kind_number, named, table_refs, block_refs, record_refs, tree_refs}
-use Rattle.tally.specs.declared.filling.Pass.{Pass}
-use Rattle.tally.specs.declared.filling.Pass.TheVariants.{Note, Forget}
 use Rattle.tally.specs.Words.{noted, unseen}
+
+-- the two passes over a tree
+pub data Pass : Type 0 where
+  Note : Pass
+  Forget : Pass
 
 -- what a pass makes of a word
 abbrev pub word_after : Pass → Kind → ℕ → ℕ

@@ -2,8 +2,7 @@
 ghost use Rattle.std.specs.Prelude.{◌≡◌, ◌+◌, ◌^◌, ◌≤◌, [], ◌∷◌};
 ghost use Rattle.walk.specs.References.{gather, named, l2_at, entry_refs, l2_refs, branch_refs, tree_refs, table_refs, block_at, named_block, block_refs, record_refs};
 ghost use Rattle.walk.specs.declared.kinds.Kind.TheVariants.{RefcountTable};
-ghost use Rattle.tally.specs.declared.filling.Pass.TheVariants.{Note};
-ghost use Rattle.tally.specs.Filling.{touched, all_touched, walked, all_walked, filled};
+ghost use Rattle.tally.specs.Filling.{Pass, Note, Forget, word_after, touched, all_touched, walked, all_walked, filled};
 
 use crate::words::{forget, note};
 use format::Numbers;
@@ -12,70 +11,87 @@ use store::Store;
 use tables::blocks;
 use walk::{Kind, block_at, l1_at, l1_entries, l2_at};
 
-// What a pass over a tree does with each reference.
-#[derive(Clone, Copy)]
-pub(crate) enum Pass {
-    Note,
-    Forget,
+// What a pass over a tree does with the word of each reference.
+trait Step {
+    ghost pass: { Pass };
+
+    fn after(word: u32, kind: Kind) -> u32
+        ensures value { result ≡ word_after pass kind word };
+}
+
+struct Noting;
+
+struct Forgetting;
+
+impl Step for Noting {
+    ghost pass = { Note };
+
+    fn after(word: u32, kind: Kind) -> u32 {
+        note(word, kind)
+    }
+}
+
+impl Step for Forgetting {
+    ghost pass = { Forget };
+
+    fn after(word: u32, _kind: Kind) -> u32 {
+        forget(word)
+    }
 }
 
 // One reference of a kind to a host cluster; one past the list has no word.
-fn touch_host(pass: Pass, kind: Kind, host: u64, words: &mut [u32])
-    ensures after { words.new ≡ touched pass (record { kind = kind; host = host }) words.old }
+fn touch_host<P: Step>(kind: Kind, host: u64, words: &mut [u32])
+    ensures after { words.new ≡ touched P.pass (record { kind = kind; host = host }) words.old }
 {
-    if host >= words.len() as u64 {
-        return;
-    }
-    let w = words[host as usize];
-    words[host as usize] = match pass {
-        Pass::Note => note(w, kind),
-        Pass::Forget => forget(w),
-    };
-}
-
-fn touch(n: Numbers, pass: Pass, kind: Kind, offset: u64, words: &mut [u32])
-    ensures after { words.new ≡ touched pass (named n kind offset) words.old }
-{
-    touch_host(pass, kind, offset / n.cluster_size(), words);
-}
-
-fn touch_entry<S: Store>(s: &S, n: Numbers, pass: Pass, l2: u64, g: u64, words: &mut [u32])
-    ensures after { words.new ≡ all_touched pass (entry_refs n (l2_at n (S.Store.bytes s.now) l2 g)) words.old }
-{
-    if let Ok(e) = l2_at(s, n, l2, g) {
-        if e.offset != 0 {
-            touch(n, pass, Kind::Data, e.offset, words);
-        }
+    let i = host as usize;
+    if i < words.len() {
+        words[i] = P::after(words[i], kind);
     }
 }
 
-fn touch_l2<S: Store>(s: &S, n: Numbers, pass: Pass, l2: u64, first: u64, words: &mut [u32])
+fn touch<P: Step>(n: Numbers, kind: Kind, offset: u64, words: &mut [u32])
+    ensures after { words.new ≡ touched P.pass (named n kind offset) words.old }
+{
+    touch_host::<P>(kind, offset / n.cluster_size(), words);
+}
+
+fn touch_entry<P: Step, S: Store>(s: &S, n: Numbers, l2: u64, g: u64, words: &mut [u32])
+    ensures after { words.new ≡ all_touched P.pass (entry_refs n (l2_at n (S.Store.bytes s.now) l2 g)) words.old }
+{
+    if let Ok(e) = l2_at(s, n, l2, g)
+        && e.offset != 0
+    {
+        touch::<P>(n, Kind::Data, e.offset, words);
+    }
+}
+
+fn touch_l2<P: Step, S: Store>(s: &S, n: Numbers, l2: u64, first: u64, words: &mut [u32])
     requires { first ≤ 2 ^ 62 }
-    ensures after { words.new ≡ all_touched pass (l2_refs n (S.Store.bytes s.now) l2 first) words.old }
+    ensures after { words.new ≡ all_touched P.pass (l2_refs n (S.Store.bytes s.now) l2 first) words.old }
 {
     let end = first + n.table_entries();
     for g in first..end {
-        touch_entry(s, n, pass, l2, g, words);
+        touch_entry::<P, _>(s, n, l2, g, words);
     }
 }
 
-fn touch_branch<S: Store>(s: &S, n: Numbers, pass: Pass, l1: u64, i: u64, words: &mut [u32])
+fn touch_branch<P: Step, S: Store>(s: &S, n: Numbers, l1: u64, i: u64, words: &mut [u32])
     requires { i ≤ 2 ^ 20 }
-    ensures after { words.new ≡ all_touched pass (branch_refs n (S.Store.bytes s.now) l1 i) words.old }
+    ensures after { words.new ≡ all_touched P.pass (branch_refs n (S.Store.bytes s.now) l1 i) words.old }
 {
-    if let Ok(e) = l1_at(s, n, l1, i) {
-        if e.offset != 0 {
-            touch(n, pass, Kind::L2, e.offset, words);
-            touch_l2(s, n, pass, e.offset, i * n.table_entries(), words);
-        }
+    if let Ok(e) = l1_at(s, n, l1, i)
+        && e.offset != 0
+    {
+        touch::<P>(n, Kind::L2, e.offset, words);
+        touch_l2::<P, _>(s, n, e.offset, i * n.table_entries(), words);
     }
 }
 
-fn touch_tree<S: Store>(s: &S, n: Numbers, pass: Pass, l1: u64, words: &mut [u32])
-    ensures after { words.new ≡ all_touched pass (tree_refs n (S.Store.bytes s.now) l1) words.old }
+fn touch_tree<P: Step, S: Store>(s: &S, n: Numbers, l1: u64, words: &mut [u32])
+    ensures after { words.new ≡ all_touched P.pass (tree_refs n (S.Store.bytes s.now) l1) words.old }
 {
     for i in 0..l1_entries(n) {
-        touch_branch(s, n, pass, l1, i, words);
+        touch_branch::<P, _>(s, n, l1, i, words);
     }
 }
 
@@ -83,9 +99,9 @@ fn touch_tree<S: Store>(s: &S, n: Numbers, pass: Pass, l1: u64, words: &mut [u32
 fn walk_table<S: Store>(s: &S, n: Numbers, kind: Kind, l1: u64, words: &mut [u32])
     ensures after { words.new ≡ walked n (S.Store.bytes s.now) kind l1 words.old }
 {
-    touch(n, Pass::Note, kind, l1, words);
-    touch_tree(s, n, Pass::Note, l1, words);
-    touch_tree(s, n, Pass::Forget, l1, words);
+    touch::<Noting>(n, kind, l1, words);
+    touch_tree::<Noting, _>(s, n, l1, words);
+    touch_tree::<Forgetting, _>(s, n, l1, words);
 }
 
 fn walk_tables<S: Store>(s: &S, n: Numbers, list: &[Snapshot], words: &mut [u32])
@@ -107,10 +123,10 @@ fn touch_blocks<S: Store>(s: &S, n: Numbers, words: &mut [u32])
 fn touch_block<S: Store>(s: &S, n: Numbers, i: u64, words: &mut [u32])
     ensures after { words.new ≡ all_touched Note (named_block n (block_at n (S.Store.bytes s.now) i)) words.old }
 {
-    if let Ok(offset) = block_at(s, n, i) {
-        if offset != 0 {
-            touch(n, Pass::Note, Kind::Block, offset, words);
-        }
+    if let Ok(offset) = block_at(s, n, i)
+        && offset != 0
+    {
+        touch::<Noting>(n, Kind::Block, offset, words);
     }
 }
 
@@ -121,7 +137,7 @@ fn touch_row(first: u64, count: u64, words: &mut [u32])
     ensures after { words.new ≡ all_touched Note (gather (λ i. record { kind = RefcountTable; host = first + i } ∷ []) 0 count) words.old }
 {
     for i in 0..count {
-        touch_host(Pass::Note, Kind::RefcountTable, first + i, words);
+        touch_host::<Noting>(Kind::RefcountTable, first + i, words);
     }
 }
 
@@ -139,7 +155,7 @@ fn touch_records(n: Numbers, words: &mut [u32])
     ensures after { words.new ≡ all_touched Note (record_refs n) words.old }
 {
     if n.snapshots != 0 {
-        touch(n, Pass::Note, Kind::SnapshotTable, n.records, words);
+        touch::<Noting>(n, Kind::SnapshotTable, n.records, words);
     }
 }
 
@@ -147,7 +163,7 @@ fn touch_records(n: Numbers, words: &mut [u32])
 pub fn fill<S: Store>(s: &S, n: Numbers, list: &[Snapshot], words: &mut [u32])
     ensures after { words.new ≡ filled n (S.Store.bytes s.now) list.now words.old }
 {
-    touch(n, Pass::Note, Kind::Header, 0, words);
+    touch::<Noting>(n, Kind::Header, 0, words);
     touch_table(n, words);
     touch_blocks(s, n, words);
     walk_table(s, n, Kind::LiveL1, n.l1, words);

@@ -1,4 +1,4 @@
-use Rattle.std.proofs.Common.{◌≡◌, ℕ, ◌+◌, ◌<◌, Bool, List, map, length, get_or, replicate, ap, ◌∙◌, subst}
+use Rattle.std.proofs.Common.{arith, ◌≡◌, ℕ, ◌+◌, ◌<◌, Bool, List, map, length, get_or, replicate, ap, ◌∙◌, subst}
 use lib.ListN.{length-replicate}
 use Rattle.std.proofs.lemmas.List.{get_or-replicate}
 use Rattle.walk.specs.References.{references}
@@ -8,11 +8,15 @@ use Rattle.tally.specs.Filling.{filled}
 use Rattle.tally.proofs.Filled.{length-filled, filled-tally}
 use Rattle.image_check.specs.Totals.{clusters_of, sum_by, leaked}
 use Rattle.image_check.proofs.Found.{leaking, lacking, mixing, repeating}
+use Rattle.image_check.proofs.Bounds.{past_most}
 use Rattle.image_check.proofs.Added.{leaked_is, short_is, mixed_is, repeated_is}
 use Rattle.image_check.proofs.call.count_up.Goals as goal
 
 five : (a b c d e u v w x y : ℕ) → a ≡ u → b ≡ v → c ≡ w → d ≡ x → e ≡ y → ◌≡◌ {A = ℕ × ℕ × ℕ × ℕ × ℕ} (a, b, c, d, e) (u, v, w, x, y)
 five a b c d e u v w x y p q r s t = λ i. (p i, q i, r i, s i, t i)
+
+pub overflow_add-leaked : goal.overflow_add-leaked
+overflow_add-leaked g c = omega (arith, c.totals-found.ensures.most, c.past_end.ensures.value, past_most c.args.n (g.S.Store.bytes c.args.s.now))
 
 pub returns : goal.returns
 returns g c =

@@ -1,6 +1,12 @@
-use Rattle.std.proofs.Common.{◌^◌, arith}
-use Rattle.std.proofs.lemmas.Nat.{mul-le}
+use Rattle.std.proofs.Common.{◌*◌, arith}
+use Rattle.image_check.specs.Totals.{wrong}
+use Rattle.image_check.proofs.Sums.{one_is, one_most}
+use Rattle.image_check.proofs.Bounds.{l2_most}
 use Rattle.image_check.proofs.flags.branch_wrong.Goals as goal
 
-pub l2_wrong-requires : goal.l2_wrong-requires
-l2_wrong-requires g c = omega (arith, mul-le c.args.i c.table_entries.result (2 ^ 20) (2 ^ 18) c.requires c.table_entries.ensures.most)
+pub overflow_add-result : goal.overflow_add-result
+overflow_add-result g c =
+    let n = c.args.n in
+    let bs = g.S.Store.bytes c.args.s.now in
+    let e = c.in-Ok.e in
+    omega (arith, one_is _ _ _ c.from-own.ensures c.wrong.ensures.value, one_most (wrong n bs e), c.l2_wrong.ensures.value, l2_most n bs e.offset (c.args.i * c.table_entries.result))

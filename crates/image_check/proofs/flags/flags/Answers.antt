@@ -1,22 +1,22 @@
-use Rattle.std.proofs.Common.{ℕ, ◌<◌, ◌≤◌, arith}
-use Rattle.walk.specs.References.{l1_at, entries_of}
-use Rattle.image_check.specs.Totals.{branch_wrong}
-use Rattle.image_check.proofs.Sums.{sum_more, sum_none}
+use Rattle.std.proofs.Common.{rules, ℕ, ◌^◌, ap, ◌∙◌, arith}
+use Rattle.std.proofs.lemmas.Iterator.{YieldsList-from_map, YieldsList-from_range}
+use Rattle.walk.specs.References.{l1_at}
+use Rattle.image_check.specs.Totals.{sum, branch_wrong}
+use Rattle.image_check.proofs.Sums.{sum_gives, sum_fits}
+use Rattle.image_check.proofs.Bounds.{flags_most}
 use Rattle.image_check.proofs.flags.flags.Goals as goal
 
-pub loop-i-preserved : goal.loop-i-preserved
-loop-i-preserved g c =
+pub sum-requires-clause-fits : goal.sum-requires-clause-fits
+sum-requires-clause-fits g c =
     let bs = g.S.Store.bytes c.args.s.now in
-    let n = c.args.n in
-    let f : ℕ → ℕ = λ i. branch_wrong n bs i (l1_at n bs n.l1 i) in
-    let lt : c.loop-i.i < entries_of n = omega (arith, c.l1_entries-i-end.ensures.value) in
-    let more = sum_more f c.loop-i.i (entries_of n) lt in
-    (omega (arith, more, c.branch_wrong-found.ensures.value, c.loop-i.invariant.0), omega (arith, c.branch_wrong-found.ensures.most, c.loop-i.invariant.1))
+    let f : ℕ → ℕ = λ i. branch_wrong c.args.n bs i (l1_at c.args.n bs c.args.n.l1 i) in
+    let k = c.l1_entries.result in
+    let same = ap (sum f 0) c.l1_entries.ensures.value in
+    sum_fits f 0 k c.map.result (YieldsList-from_map _ f (YieldsList-from_range 0 k k c.map.ensures.source (omega arith)) c.map.ensures.closure (λ x r q k. search rules)) (2 ^ 64) (omega (arith, same, flags_most c.args.n bs))
 
 pub returns : goal.returns
 returns g c =
     let bs = g.S.Store.bytes c.args.s.now in
-    let n = c.args.n in
-    let f : ℕ → ℕ = λ i. branch_wrong n bs i (l1_at n bs n.l1 i) in
-    let le : entries_of n ≤ c.loop-i.i = omega (arith, c.l1_entries-i-end.ensures.value) in
-    record { value = omega (arith, sum_none f c.loop-i.i (entries_of n) le, c.loop-i.invariant.0) }
+    let f : ℕ → ℕ = λ i. branch_wrong c.args.n bs i (l1_at c.args.n bs c.args.n.l1 i) in
+    let k = c.l1_entries.result in
+    record { value = sum_gives f 0 k c.map.result (YieldsList-from_map _ f (YieldsList-from_range 0 k k c.map.ensures.source (omega arith)) c.map.ensures.closure (λ x r q k. search rules)) c.sum.result c.sum.ensures.ran ∙ ap (sum f 0) c.l1_entries.ensures.value }

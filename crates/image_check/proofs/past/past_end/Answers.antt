@@ -1,23 +1,22 @@
-use Rattle.std.proofs.Common.{ℕ, ◌<◌, ◌≤◌, arith}
-use Rattle.tables.specs.Refcounts.{blocks}
+use Rattle.std.proofs.Common.{rules, ℕ, ◌^◌, ap, ◌∙◌, arith}
+use Rattle.std.proofs.lemmas.Iterator.{YieldsList-from_map, YieldsList-from_range}
 use Rattle.walk.specs.References.{block_at}
-use Rattle.image_check.specs.Totals.{past_in}
-use Rattle.image_check.proofs.Sums.{sum_more, sum_none}
+use Rattle.image_check.specs.Totals.{sum, past_in}
+use Rattle.image_check.proofs.Sums.{sum_gives, sum_fits}
+use Rattle.image_check.proofs.Bounds.{past_most}
 use Rattle.image_check.proofs.past.past_end.Goals as goal
 
-pub loop-i-preserved : goal.loop-i-preserved
-loop-i-preserved g c =
+pub sum-requires-clause-fits : goal.sum-requires-clause-fits
+sum-requires-clause-fits g c =
     let bs = g.S.Store.bytes c.args.s.now in
-    let n = c.args.n in
-    let f : ℕ → ℕ = λ i. past_in n bs i (block_at n bs i) in
-    let lt : c.loop-i.i < blocks n = omega (arith, c.blocks-i-end.ensures.value) in
-    let more = sum_more f c.loop-i.i (blocks n) lt in
-    (omega (arith, more, c.past_named-found.ensures.value, c.loop-i.invariant.0), omega (arith, c.past_named-found.ensures.most, c.loop-i.invariant.1))
+    let f : ℕ → ℕ = λ i. past_in c.args.n bs i (block_at c.args.n bs i) in
+    let k = c.blocks-2.result in
+    let same = ap (sum f 0) c.blocks-2.ensures.value in
+    sum_fits f 0 k c.map.result (YieldsList-from_map _ f (YieldsList-from_range 0 k k c.map.ensures.source (omega arith)) c.map.ensures.closure (λ x r q k. search rules)) (2 ^ 64) (omega (arith, same, past_most c.args.n bs))
 
 pub returns : goal.returns
 returns g c =
     let bs = g.S.Store.bytes c.args.s.now in
-    let n = c.args.n in
-    let f : ℕ → ℕ = λ i. past_in n bs i (block_at n bs i) in
-    let le : blocks n ≤ c.loop-i.i = omega (arith, c.blocks-i-end.ensures.value) in
-    record { value = omega (arith, sum_none f c.loop-i.i (blocks n) le, c.loop-i.invariant.0); most = omega (arith, c.loop-i.invariant.1, c.blocks-i-end.ensures.most, c.loop-i.auto.i-end) }
+    let f : ℕ → ℕ = λ i. past_in c.args.n bs i (block_at c.args.n bs i) in
+    let k = c.blocks-2.result in
+    record { value = sum_gives f 0 k c.map.result (YieldsList-from_map _ f (YieldsList-from_range 0 k k c.map.ensures.source (omega arith)) c.map.ensures.closure (λ x r q k. search rules)) c.sum.result c.sum.ensures.ran ∙ ap (sum f 0) c.blocks-2.ensures.value }

@@ -1,21 +1,21 @@
-use Rattle.std.proofs.Common.{ℕ, ◌<◌, ◌≤◌, arith}
-use Rattle.tables.specs.Refcounts.{per_block}
-use Rattle.image_check.specs.Totals.{one, past}
-use Rattle.image_check.proofs.Sums.{sum_more, sum_none, one_is, one_most}
+use Rattle.std.proofs.Common.{rules, ℕ, ◌^◌, ap, ◌∙◌, arith}
+use Rattle.std.proofs.lemmas.Iterator.{YieldsList-from_map, YieldsList-from_range}
+use Rattle.image_check.specs.Totals.{sum, one, past}
+use Rattle.image_check.proofs.Sums.{sum_gives, sum_fits, one_is}
+use Rattle.image_check.proofs.Bounds.{in_block_most}
 use Rattle.image_check.proofs.past.past_in.Goals as goal
 
-pub loop-j-preserved : goal.loop-j-preserved
-loop-j-preserved g c =
-    let n = c.args.n in
-    let f : ℕ → ℕ = λ j. one (past n (g.S.Store.bytes c.args.s.now) c.args.i c.args.block j) in
-    let lt : c.loop-j.j < per_block n = omega (arith, c.block_counts-j-end.ensures.value) in
-    let more = sum_more f c.loop-j.j (per_block n) lt in
-    let found = one_is _ _ _ c.from-found.ensures c.past.ensures.value in
-    (omega (arith, more, found, c.loop-j.invariant.0), omega (arith, found, one_most (past n (g.S.Store.bytes c.args.s.now) c.args.i c.args.block c.loop-j.j), c.loop-j.invariant.1))
+pub sum-requires-clause-fits : goal.sum-requires-clause-fits
+sum-requires-clause-fits g c =
+    let bs = g.S.Store.bytes c.args.s.now in
+    let f : ℕ → ℕ = λ j. one (past c.args.n bs c.args.i c.args.block j) in
+    let k = c.block_counts.result in
+    let same = ap (sum f 0) c.block_counts.ensures.value in
+    sum_fits f 0 k c.map.result (YieldsList-from_map _ f (YieldsList-from_range 0 k k c.map.ensures.source (omega arith)) c.map.ensures.closure (λ x r q k. search (rules, one_is))) (2 ^ 64) (omega (arith, same, in_block_most c.args.n bs c.args.i c.args.block))
 
 pub returns : goal.returns
 returns g c =
-    let n = c.args.n in
-    let f : ℕ → ℕ = λ j. one (past n (g.S.Store.bytes c.args.s.now) c.args.i c.args.block j) in
-    let le : per_block n ≤ c.loop-j.j = omega (arith, c.block_counts-j-end.ensures.value) in
-    record { value = omega (arith, sum_none f c.loop-j.j (per_block n) le, c.loop-j.invariant.0); most = omega (arith, c.loop-j.invariant.1, c.block_counts-j-end.ensures.most, c.loop-j.auto.j-end) }
+    let bs = g.S.Store.bytes c.args.s.now in
+    let f : ℕ → ℕ = λ j. one (past c.args.n bs c.args.i c.args.block j) in
+    let k = c.block_counts.result in
+    record { value = sum_gives f 0 k c.map.result (YieldsList-from_map _ f (YieldsList-from_range 0 k k c.map.ensures.source (omega arith)) c.map.ensures.closure (λ x r q k. search (rules, one_is))) c.sum.result c.sum.ensures.ran ∙ ap (sum f 0) c.block_counts.ensures.value }

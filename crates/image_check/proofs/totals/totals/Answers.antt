@@ -1,6 +1,6 @@
-use Rattle.std.proofs.Common.{◌≡◌, ◌%◌, ◌^◌, ltb, get_or, arith}
+use Rattle.std.proofs.Common.{◌≡◌, ◌%◌, ◌^◌, ltb, get_or}
 use Rattle.tables.specs.Refcounts.{count}
-use Rattle.image_check.proofs.Found.{left_more, left_none, leaking, lacking, mixing, repeating}
+use Rattle.image_check.proofs.Found.{left_more, leaking, lacking, mixing, repeating}
 use Rattle.image_check.proofs.Sums.{one_is}
 use Rattle.image_check.proofs.totals.totals.Goals as goal
 
@@ -21,17 +21,3 @@ loop-h-preserved g c =
       left_more mixing words _ i _ lt (one_is _ _ _ c.from-in-loop-h-2.ensures c.mixed_by.ensures.value) c.loop-h.invariant.2,
       left_more repeating words _ i _ lt (one_is _ _ _ c.from-in-loop-h-3.ensures c.repeats_by.ensures.value) c.loop-h.invariant.3,
     )
-
-pub returns : goal.returns
-returns g c =
-    let n = c.args.n in
-    let bs = g.S.Store.bytes c.args.s.now in
-    let words = c.args.words.now in
-    let le = c.loop-h-test.false in
-    record {
-      leaked = left_none (leaking n bs) words _ c.loop-h.h le c.loop-h.invariant.0;
-      short = left_none (lacking n bs) words _ c.loop-h.h le c.loop-h.invariant.1;
-      mixed = left_none mixing words _ c.loop-h.h le c.loop-h.invariant.2;
-      repeated = left_none repeating words _ c.loop-h.h le c.loop-h.invariant.3;
-      most = omega (arith, c.loop-h.invariant.0.1, c.loop-h.auto.h-end, c.requires);
-    }

@@ -1,6 +1,6 @@
 use Rattle.std.proofs.Common.{sym, ◌∙◌}
 use Rattle.std.proofs.lemmas.Result.{err_from_is_err_and}
-use Rattle.fault.proofs.Outcomes.{each_bad, each-good, each_none}
+use Rattle.fault.proofs.Outcomes.{each_bad, each-good}
 use Rattle.guest.specs.Shown.{guest_entry}
 use Rattle.mapping.proofs.maps.judge_entries.Goals as goal
 
@@ -14,8 +14,3 @@ pub loop-g-preserved : goal.loop-g-preserved
 loop-g-preserved g c =
     let f = guest_entry c.args.n (g.S.Store.bytes c.args.s.now) c.args.l1 in
     sym (each-good f c.loop-g.g c.args.clusters c.loop-g-test.true _ c.in_ok-entry_of.ensures.value) ∙ c.loop-g.invariant
-
-pub returns : goal.returns
-returns g c =
-    let f = guest_entry c.args.n (g.S.Store.bytes c.args.s.now) c.args.l1 in
-    record { value = sym (each_none f c.loop-g.g c.args.clusters c.loop-g-test.false) ∙ c.loop-g.invariant }

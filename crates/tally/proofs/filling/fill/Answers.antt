@@ -1,8 +1,7 @@
 use Rattle.std.proofs.Common.{sym, ap, ◌∙◌}
 use Rattle.walk.specs.declared.kinds.Kind.TheVariants.{LiveL1}
 use Rattle.walk.specs.References.{table_refs, block_refs, record_refs}
-use Rattle.tally.specs.declared.filling.Pass.TheVariants.{Note}
-use Rattle.tally.specs.Filling.{all_touched, walked, all_walked}
+use Rattle.tally.specs.Filling.{Note, all_touched, walked, all_walked}
 use Rattle.tally.proofs.Touched.{touched-append}
 use Rattle.tally.proofs.filling.fill.Goals as goal
 

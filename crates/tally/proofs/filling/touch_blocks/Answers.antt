@@ -1,9 +1,8 @@
-use Rattle.std.proofs.Common.{ℕ, ◌+◌, ◌-◌, ◌<◌, ◌≤◌, List, sym, ap, ◌∙◌, arith}
+use Rattle.std.proofs.Common.{ℕ, ◌+◌, ◌-◌, ◌<◌, List, sym, ap, ◌∙◌, arith}
 use Rattle.tables.specs.Refcounts.{blocks}
 use Rattle.walk.specs.References.{Ref, gather, named_block, block_at}
-use Rattle.tally.specs.declared.filling.Pass.TheVariants.{Note}
-use Rattle.tally.specs.Filling.{all_touched}
-use Rattle.tally.proofs.Touched.{gather_more, gather_none}
+use Rattle.tally.specs.Filling.{Note, all_touched}
+use Rattle.tally.proofs.Touched.{gather_more}
 use Rattle.tally.proofs.filling.touch_blocks.Goals as goal
 
 pub loop-i-preserved : goal.loop-i-preserved
@@ -13,9 +12,3 @@ loop-i-preserved g c =
     ap (all_touched Note (gather f (c.loop-i.i + 1) (blocks c.args.n - (c.loop-i.i + 1)))) c.touch_block.ensures.after
     ∙ sym (gather_more Note f c.loop-i.i (blocks c.args.n) c.loop-i.words lt)
     ∙ c.loop-i.invariant
-
-pub returns : goal.returns
-returns g c =
-    let f : ℕ → List Ref = λ i. named_block c.args.n (block_at c.args.n (g.S.Store.bytes c.args.s.now) i) in
-    let le : blocks c.args.n ≤ c.loop-i.i = omega (arith, c.blocks-i-end.ensures.value) in
-    record { after = sym (gather_none Note f c.loop-i.i (blocks c.args.n) c.loop-i.words le) ∙ c.loop-i.invariant }

@@ -1,8 +1,7 @@
 use Rattle.std.proofs.Common.{◌≡◌, ◌-◌}
 use Rattle.tables.specs.Refcounts.{blocks}
 use Rattle.walk.specs.References.{gather, named_block, block_at, block_refs}
-use Rattle.tally.specs.declared.filling.Pass.TheVariants.{Note}
-use Rattle.tally.specs.Filling.{all_touched}
+use Rattle.tally.specs.Filling.{Note, all_touched}
 use Rattle.tally.proofs.filling.touch_blocks.Given as goal
 
 -- what is left of the walk gives what the whole gives

@@ -1,9 +1,8 @@
 use Rattle.std.proofs.Common.{ℕ, ◌+◌, ◌-◌, List, [], ◌∷◌, sym, ap, ◌∙◌}
 use Rattle.walk.specs.declared.kinds.Kind.TheVariants.{RefcountTable}
 use Rattle.walk.specs.References.{Ref, gather}
-use Rattle.tally.specs.declared.filling.Pass.TheVariants.{Note}
-use Rattle.tally.specs.Filling.{all_touched}
-use Rattle.tally.proofs.Touched.{gather_more, gather_none}
+use Rattle.tally.specs.Filling.{Note, all_touched}
+use Rattle.tally.proofs.Touched.{gather_more}
 use Rattle.tally.proofs.filling.touch_row.Goals as goal
 
 pub loop-i-preserved : goal.loop-i-preserved
@@ -12,8 +11,3 @@ loop-i-preserved c =
     ap (all_touched Note (gather f (c.loop-i.i + 1) (c.args.count - (c.loop-i.i + 1)))) c.touch_host.ensures.after
     ∙ sym (gather_more Note f c.loop-i.i c.args.count c.loop-i.words c.loop-i-test.true)
     ∙ c.loop-i.invariant
-
-pub returns : goal.returns
-returns c =
-    let f : ℕ → List Ref = λ i. record { kind = RefcountTable; host = c.args.first + i } ∷ [] in
-    record { after = sym (gather_none Note f c.loop-i.i c.args.count c.loop-i.words c.loop-i-test.false) ∙ c.loop-i.invariant }

@@ -1,8 +1,7 @@
 use Rattle.std.proofs.Common.{◌≡◌, ◌+◌, ◌-◌, [], ◌∷◌}
 use Rattle.walk.specs.declared.kinds.Kind.TheVariants.{RefcountTable}
 use Rattle.walk.specs.References.{gather}
-use Rattle.tally.specs.declared.filling.Pass.TheVariants.{Note}
-use Rattle.tally.specs.Filling.{all_touched}
+use Rattle.tally.specs.Filling.{Note, all_touched}
 use Rattle.tally.proofs.filling.touch_row.Given as goal
 
 -- what is left of the walk gives what the whole gives

@@ -6,5 +6,5 @@ use Rattle.tally.proofs.filling.touch_tree.Given as goal
 -- what is left of the walk gives what the whole gives
 abbrev pub invariant-loop-i : goal.invariant-loop-i
 invariant-loop-i g l =
-    all_touched l.pass (gather (branch_refs l.n (g.S.Store.bytes l.s) l.l1) l.i (entries_of l.n - l.i)) l.words
-    ≡ all_touched l.pass (tree_refs l.n (g.S.Store.bytes l.s) l.l1) l.initial.words
+    all_touched g.P.Step.pass (gather (branch_refs l.n (g.S.Store.bytes l.s) l.l1) l.i (entries_of l.n - l.i)) l.words
+    ≡ all_touched g.P.Step.pass (tree_refs l.n (g.S.Store.bytes l.s) l.l1) l.initial.words

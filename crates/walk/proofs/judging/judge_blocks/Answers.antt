@@ -1,6 +1,6 @@
-use Rattle.std.proofs.Common.{◌<◌, ◌≤◌, sym, ◌∙◌, arith}
+use Rattle.std.proofs.Common.{◌<◌, sym, ◌∙◌, arith}
 use Rattle.std.proofs.lemmas.Result.{err_from_is_err_and}
-use Rattle.fault.proofs.Outcomes.{each_bad, each-good, each_none}
+use Rattle.fault.proofs.Outcomes.{each_bad, each-good}
 use Rattle.tables.specs.Refcounts.{blocks}
 use Rattle.walk.specs.References.{block_at}
 use Rattle.walk.proofs.judging.judge_blocks.Goals as goal
@@ -17,9 +17,3 @@ loop-i-preserved g c =
     let f = block_at c.args.n (g.S.Store.bytes c.args.s.now) in
     let lt : c.loop-i.i < blocks c.args.n = omega (arith, c.blocks-i-end.ensures.value) in
     sym (each-good f c.loop-i.i (blocks c.args.n) lt _ c.in_ok-block_at.ensures.value) ∙ c.loop-i.invariant
-
-pub returns : goal.returns
-returns g c =
-    let f = block_at c.args.n (g.S.Store.bytes c.args.s.now) in
-    let le : blocks c.args.n ≤ c.loop-i.i = omega (arith, c.blocks-i-end.ensures.value) in
-    record { value = sym (each_none f c.loop-i.i (blocks c.args.n) le) ∙ c.loop-i.invariant }

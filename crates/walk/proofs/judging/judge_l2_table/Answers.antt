@@ -1,7 +1,6 @@
-use Rattle.std.proofs.Common.{◌+◌, sym, ap, ◌∙◌, arith}
+use Rattle.std.proofs.Common.{◌+◌, sym, ◌∙◌}
 use Rattle.std.proofs.lemmas.Result.{err_from_is_err_and}
-use Rattle.fault.specs.Outcomes.{each}
-use Rattle.fault.proofs.Outcomes.{each_bad, each-good, each_none}
+use Rattle.fault.proofs.Outcomes.{each_bad, each-good}
 use Rattle.walk.specs.References.{l2_at}
 use Rattle.walk.proofs.judging.judge_l2_table.Goals as goal
 
@@ -11,15 +10,7 @@ returns-in_err-l2_at g c =
     let p = err_from_is_err_and c.from_residual.result c.from_residual.ensures.1 in
     rw (p.1, p.2) (record { value = sym (sym c.loop-g.invariant ∙ each_bad f c.loop-g.g (c.args.first + c.table_entries.result) c.loop-g-test.true _ c.in_err-l2_at.ensures.value) })
 
-pub loop-g-init : goal.loop-g-init
-loop-g-init g c = ap (each (l2_at c.args.n (g.S.Store.bytes c.args.s.now) c.args.l2) c.args.first) (omega (arith, c.table_entries.ensures.value))
-
 pub loop-g-preserved : goal.loop-g-preserved
 loop-g-preserved g c =
     let f = l2_at c.args.n (g.S.Store.bytes c.args.s.now) c.args.l2 in
     sym (each-good f c.loop-g.g (c.args.first + c.table_entries.result) c.loop-g-test.true _ c.in_ok-l2_at.ensures.value) ∙ c.loop-g.invariant
-
-pub returns : goal.returns
-returns g c =
-    let f = l2_at c.args.n (g.S.Store.bytes c.args.s.now) c.args.l2 in
-    record { value = sym (each_none f c.loop-g.g (c.args.first + c.table_entries.result) c.loop-g-test.false) ∙ c.loop-g.invariant }

@@ -1,6 +1,6 @@
-use Rattle.std.proofs.Common.{◌<◌, ◌≤◌, sym, ◌∙◌, arith}
+use Rattle.std.proofs.Common.{◌<◌, sym, ◌∙◌, arith}
 use Rattle.std.proofs.lemmas.Result.{err_from_is_err_and}
-use Rattle.fault.proofs.Outcomes.{each_bad, each-good, each_none}
+use Rattle.fault.proofs.Outcomes.{each_bad, each-good}
 use Rattle.walk.specs.References.{entries_of}
 use Rattle.walk.specs.Walk.{branch_judged}
 use Rattle.walk.proofs.judging.judge_tree.Goals as goal
@@ -17,9 +17,3 @@ loop-i-preserved g c =
     let f = branch_judged c.args.n (g.S.Store.bytes c.args.s.now) c.args.l1 in
     let lt : c.loop-i.i < entries_of c.args.n = omega (arith, c.l1_entries-i-end.ensures.value) in
     sym (each-good f c.loop-i.i (entries_of c.args.n) lt _ c.in_ok-judge_branch.ensures.value) ∙ c.loop-i.invariant
-
-pub returns : goal.returns
-returns g c =
-    let f = branch_judged c.args.n (g.S.Store.bytes c.args.s.now) c.args.l1 in
-    let le : entries_of c.args.n ≤ c.loop-i.i = omega (arith, c.l1_entries-i-end.ensures.value) in
-    record { value = sym (each_none f c.loop-i.i (entries_of c.args.n) le) ∙ c.loop-i.invariant }
