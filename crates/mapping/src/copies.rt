@@ -5,12 +5,12 @@ ghost use Rattle.image.specs.Honest.{Honest};
 ghost use Rattle.mapping.specs.Maps.{map_outcome};
 ghost use Rattle.mapping.specs.Copies.{word_shows, copy_outcome, shown_outcome};
 
-use crate::word::Word;
 use disk::Disk;
 use fault::Fault;
 use format::Numbers;
 use guest::{clear, guest_clusters, read_under};
 use image::{Mount, judge_room, judge_sector};
+use runs::Kind;
 use store::Store;
 
 fn read_by_word<S: Store, B: Disk>(
@@ -23,14 +23,14 @@ fn read_by_word<S: Store, B: Disk>(
 ) -> Result<(), Fault>
     ensures outcome { Gives result (word_shows n (S.Store.bytes s.now) (B.Disk.reading backing.now) word sector) out.old out.new }
 {
-    match Word::from(word) {
-        Word::Empty => read_under(n, backing, sector, out),
-        Word::Zeros => {
+    match Kind::from(word) {
+        Kind::Empty => read_under(n, backing, sector, out),
+        Kind::Zeros => {
             clear(out);
             Ok(())
         }
-        Word::Data(host) => {
-            let first = host * n.cluster_size();
+        Kind::Data(host) => {
+            let first = host as u64 * n.cluster_size();
             s.read(first + sector % n.cluster_sectors() * 512, out)
         }
     }

@@ -3,7 +3,6 @@
 
 mod copies;
 mod maps;
-mod word;
 
 pub use copies::copy_out;
 pub use maps::map;

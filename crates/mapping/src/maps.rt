@@ -1,38 +1,40 @@
 // The map: a word for each guest cluster, so that a reader need not walk the tables.
 ghost use Rattle.std.specs.Prelude.{◌≡◌, length};
 ghost use Rattle.fault.specs.Outcomes.{each, Gives};
-ghost use Rattle.mapping.specs.Words.{word_number};
+ghost use Rattle.runs.specs.Words.{word_of as word_saying};
 ghost use Rattle.mapping.specs.Maps.{word_of, word_in, words_of, map_id_judged, table_for, map_outcome};
 ghost use Rattle.guest.specs.Shown.{guest_entry};
 
-use crate::word::Word;
 use disk::Disk;
 use fault::{Fault, Layer, Reason};
 use format::{Entry, Numbers};
 use guest::{entry_of, guest_clusters};
 use image::{Mount, judge_room};
+use runs::Kind;
 use snapshot::table_of;
 use store::Store;
 
-fn word_of(n: Numbers, e: Entry) -> Word
-    ensures value { word_number result ≡ word_of n e }
+fn kind_of(n: Numbers, e: Entry) -> Kind
+    ensures value { word_saying result ≡ word_of n e }
 {
     if e.zero {
-        return Word::Zeros;
+        return Kind::Zeros;
     }
     if e.offset == 0 {
-        return Word::Empty;
+        return Kind::Empty;
     }
-    Word::Data(e.offset / n.cluster_size())
+    // a good image has fewer than 2^30 clusters
+    let host = (e.offset / n.cluster_size()).min((1 << 30) - 1);
+    Kind::Data(host as u32)
 }
 
-// The word of a guest cluster whose entry was judged good.
-fn word_at<S: Store>(s: &S, n: Numbers, l1: u64, cluster: u64) -> Word
-    ensures value { word_number result ≡ word_in n (guest_entry n (S.Store.bytes s.now) l1 cluster) }
+// What the word of a guest cluster says, whose entry was judged good.
+fn kind_at<S: Store>(s: &S, n: Numbers, l1: u64, cluster: u64) -> Kind
+    ensures value { word_saying result ≡ word_in n (guest_entry n (S.Store.bytes s.now) l1 cluster) }
 {
     match entry_of(s, n, l1, cluster) {
-        Ok(e) => word_of(n, e),
-        Err(_) => Word::Empty,
+        Ok(e) => kind_of(n, e),
+        Err(_) => Kind::Empty,
     }
 }
 
@@ -40,7 +42,7 @@ fn fill_words<S: Store>(s: &S, n: Numbers, l1: u64, words: &mut [u32])
     ensures after { words.new ≡ words_of n (S.Store.bytes s.now) l1 (length words.old) }
 {
     for (g, w) in words.iter_mut().enumerate() {
-        *w = u32::from(word_at(s, n, l1, g as u64));
+        *w = u32::from(kind_at(s, n, l1, g as u64));
     }
 }
 

@@ -2,15 +2,20 @@
 #![tactic(auto)]
 
 ghost use Rattle.std.specs.Prelude.{◌≡◌, ℕ, ◌+◌, ◌-◌, ◌<◌, ◌≤◌, true, false, length, IfSome, MatchOption, slice_index};
-ghost use Rattle.runs.specs.Words.{goes_on, kind_of};
+ghost use Rattle.runs.specs.Words.{goes_on, kind_of, word_of};
 
+// What a word says of its guest cluster.
 #[derive(Clone, Copy, Debug, PartialEq, Eq)]
 pub enum Kind {
     Empty,
     Zeros,
-    // the first host cluster
+    // the host cluster, a run's first one
     Data(u32),
 }
+
+const ZEROS: u32 = 1 << 30;
+
+const DATA: u32 = 1 << 31;
 
 #[derive(Clone, Copy, Debug, PartialEq, Eq)]
 pub struct Run {
@@ -31,15 +36,27 @@ fn goes_on(before: u32, word: u32) -> bool
     }
 }
 
-// What a word says of its cluster.
 impl From<u32> for Kind {
     ghost from_gives = { λ word kind. kind ≡ kind_of word };
 
     fn from(word: u32) -> Kind {
-        match word / (1 << 30) {
+        match word / ZEROS {
             0 => Kind::Empty,
             1 => Kind::Zeros,
-            _ => Kind::Data(word % (1 << 30)),
+            _ => Kind::Data(word % ZEROS),
+        }
+    }
+}
+
+impl From<Kind> for u32 {
+    ghost from_gives = { λ kind word. word ≡ word_of kind };
+
+    fn from(kind: Kind) -> u32 {
+        match kind {
+            Kind::Empty => 0,
+            Kind::Zeros => ZEROS,
+            // a good image has fewer than 2^30 clusters
+            Kind::Data(host) => DATA + host.min(ZEROS - 1),
         }
     }
 }
