@@ -1,5 +1,6 @@
 // Copied flags in and under the live L1 table that do not say whether the count of their cluster is one.
-ghost use Rattle.std.specs.Prelude.{◌≡◌, ◌+◌, ◌^◌, ◌≤◌, Bool};
+ghost use Rattle.std.specs.Prelude.{◌≡◌, ◌*◌, Bool};
+ghost use Rattle.format.specs.Clusters.{per_table};
 ghost use Rattle.walk.specs.References.{l1_at, l2_at};
 ghost use Rattle.image_check.specs.Totals.{wrong as wrong_by, wrong_in, l2_wrong, branch_wrong, flags as flags_of};
 
@@ -20,22 +21,22 @@ fn wrong_in<S: Store>(s: &S, n: Numbers, l2: u64, g: u64) -> u64
     u64::from(l2_at(s, n, l2, g).is_ok_and(|e| wrong(s, n, e)))
 }
 
-fn l2_wrong<S: Store>(s: &S, n: Numbers, l2: u64, first: u64) -> u64
-    requires { first ≤ 2 ^ 62 }
-    ensures value { result ≡ l2_wrong n (S.Store.bytes s.now) l2 first }
+// Under the L2 table at `l2`, which the i-th L1 entry leads to.
+fn l2_wrong<S: Store>(s: &S, n: Numbers, l2: u64, i: u32) -> u64
+    ensures value { result ≡ l2_wrong n (S.Store.bytes s.now) l2 (i * per_table n) }
 {
+    let first = i as u64 * n.table_entries();
     let end = first + n.table_entries();
     (first..end).map(|g| wrong_in(s, n, l2, g)).sum()
 }
 
-fn branch_wrong<S: Store>(s: &S, n: Numbers, i: u64) -> u64
-    requires { i ≤ 2 ^ 20 }
+fn branch_wrong<S: Store>(s: &S, n: Numbers, i: u32) -> u64
     ensures value { result ≡ branch_wrong n (S.Store.bytes s.now) i (l1_at n (S.Store.bytes s.now) n.l1 i) }
 {
-    match l1_at(s, n, n.l1, i) {
+    match l1_at(s, n, n.l1, i as u64) {
         Ok(e) if e.offset != 0 => {
             let own = u64::from(wrong(s, n, e));
-            own + l2_wrong(s, n, e.offset, i * n.table_entries())
+            own + l2_wrong(s, n, e.offset, i)
         }
         _ => 0,
     }

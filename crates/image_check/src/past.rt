@@ -20,17 +20,15 @@ pub(crate) fn clusters<S: Store>(s: &S, n: Numbers) -> u64
 }
 
 // Whether the j-th count of the i-th block, which lies at `block`, is one past the end.
-fn past<S: Store>(s: &S, n: Numbers, i: u64, block: u64, j: u64) -> bool
-    requires i_bound { i ≤ 2 ^ 24 }
-    requires j_bound { j < per_block n }
+fn past<S: Store>(s: &S, n: Numbers, i: u32, block: u64, j: u64) -> bool
+    requires { j < per_block n }
     ensures value { result ≡ past_by n (S.Store.bytes s.now) i block j }
 {
-    clusters(s, n) <= i * block_counts(n) + j
+    clusters(s, n) <= i as u64 * block_counts(n) + j
         && read_number::<u16, S>(s, block.saturating_add(j * 2)).unwrap_or(0) != 0
 }
 
-fn past_in<S: Store>(s: &S, n: Numbers, i: u64, block: u64) -> u64
-    requires { i ≤ 2 ^ 24 }
+fn past_in<S: Store>(s: &S, n: Numbers, i: u32, block: u64) -> u64
     ensures value { result ≡ sum (λ j. one (past_by n (S.Store.bytes s.now) i block j)) 0 (per_block n) }
 {
     (0..block_counts(n))
@@ -38,11 +36,10 @@ fn past_in<S: Store>(s: &S, n: Numbers, i: u64, block: u64) -> u64
         .sum()
 }
 
-fn past_named<S: Store>(s: &S, n: Numbers, i: u64) -> u64
-    requires { i ≤ 2 ^ 24 }
+fn past_named<S: Store>(s: &S, n: Numbers, i: u32) -> u64
     ensures value { result ≡ past_in n (S.Store.bytes s.now) i (block_at n (S.Store.bytes s.now) i) }
 {
-    match block_at(s, n, i) {
+    match block_at(s, n, i as u64) {
         Ok(0) | Err(_) => 0,
         Ok(block) => past_in(s, n, i, block),
     }

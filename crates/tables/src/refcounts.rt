@@ -17,11 +17,11 @@ pub fn block_counts(n: Numbers) -> u64
 }
 
 // The entries of the refcount table.
-pub fn blocks(n: Numbers) -> u64
+pub fn blocks(n: Numbers) -> u32
     ensures value { result ≡ blocks_of n }
     ensures most { result ≤ 2 ^ 24 }
 {
-    n.extent.min(64) as u64 * n.table_entries()
+    n.extent.min(64) * n.table_entries() as u32
 }
 
 // Judges an entry of the refcount table that stands at `place` of a store of this length.
@@ -45,7 +45,7 @@ pub fn block_place(n: Numbers, block: u64) -> u64
 pub fn block_at<S: Store>(s: &S, n: Numbers, block: u64) -> Result<u64, Fault>
     ensures value { result ≡ block_at n (S.Store.bytes s.now) block }
 {
-    if block < blocks(n) {
+    if block < blocks(n) as u64 {
         read_number(s, block_place(n, block))
     } else {
         Ok(0)

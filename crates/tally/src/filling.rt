@@ -1,5 +1,6 @@
 // The walk that counts: each reference is noted in the word of its cluster. All entries were judged good before.
-ghost use Rattle.std.specs.Prelude.{◌≡◌, ◌+◌, ◌^◌, ◌≤◌, [], ◌∷◌};
+ghost use Rattle.std.specs.Prelude.{◌≡◌, ◌+◌, ◌*◌, ◌^◌, ◌≤◌, [], ◌∷◌};
+ghost use Rattle.format.specs.Clusters.{per_table};
 ghost use Rattle.walk.specs.References.{gather, named, l2_at, entry_refs, l2_refs, branch_refs, tree_refs, table_refs, block_at, named_block, block_refs, record_refs};
 ghost use Rattle.walk.specs.declared.kinds.Kind.TheVariants.{RefcountTable};
 ghost use Rattle.tally.specs.Filling.{Pass, Note, Forget, word_after, touched, all_touched, walked, all_walked, filled};
@@ -65,25 +66,25 @@ fn touch_entry<P: Step, S: Store>(s: &S, n: Numbers, l2: u64, g: u64, words: &mu
     }
 }
 
-fn touch_l2<P: Step, S: Store>(s: &S, n: Numbers, l2: u64, first: u64, words: &mut [u32])
-    requires { first ≤ 2 ^ 62 }
-    ensures after { words.new ≡ all_touched P.pass (l2_refs n (S.Store.bytes s.now) l2 first) words.old }
+// The L2 table at `l2`, which the i-th L1 entry leads to.
+fn touch_l2<P: Step, S: Store>(s: &S, n: Numbers, l2: u64, i: u32, words: &mut [u32])
+    ensures after { words.new ≡ all_touched P.pass (l2_refs n (S.Store.bytes s.now) l2 (i * per_table n)) words.old }
 {
+    let first = i as u64 * n.table_entries();
     let end = first + n.table_entries();
     for g in first..end {
         touch_entry::<P, _>(s, n, l2, g, words);
     }
 }
 
-fn touch_branch<P: Step, S: Store>(s: &S, n: Numbers, l1: u64, i: u64, words: &mut [u32])
-    requires { i ≤ 2 ^ 20 }
+fn touch_branch<P: Step, S: Store>(s: &S, n: Numbers, l1: u64, i: u32, words: &mut [u32])
     ensures after { words.new ≡ all_touched P.pass (branch_refs n (S.Store.bytes s.now) l1 i) words.old }
 {
-    if let Ok(e) = l1_at(s, n, l1, i)
+    if let Ok(e) = l1_at(s, n, l1, i as u64)
         && e.offset != 0
     {
         touch::<P>(n, Kind::L2, e.offset, words);
-        touch_l2::<P, _>(s, n, e.offset, i * n.table_entries(), words);
+        touch_l2::<P, _>(s, n, e.offset, i, words);
     }
 }
 
@@ -116,7 +117,7 @@ fn touch_blocks<S: Store>(s: &S, n: Numbers, words: &mut [u32])
     ensures after { words.new ≡ all_touched Note (block_refs n (S.Store.bytes s.now)) words.old }
 {
     for i in 0..blocks(n) {
-        touch_block(s, n, i, words);
+        touch_block(s, n, i as u64, words);
     }
 }
 

@@ -1,5 +1,6 @@
 // The walk that judges: nothing is counted before all of it is good.
-ghost use Rattle.std.specs.Prelude.{◌≡◌, ◌^◌, ◌≤◌, Ok, Err, MatchResult};
+ghost use Rattle.std.specs.Prelude.{◌≡◌, ◌*◌, Ok, Err, MatchResult};
+ghost use Rattle.format.specs.Clusters.{per_table};
 ghost use Rattle.snapshot.specs.All.{kept};
 ghost use Rattle.walk.specs.Walk.{blocks_judged, l2_judged, branch_judged, tree_judged, trees_judged, walk as walk_of};
 
@@ -14,15 +15,16 @@ fn judge_blocks<S: Store>(s: &S, n: Numbers) -> Result<(), Fault>
     ensures value { result ≡ blocks_judged n (S.Store.bytes s.now) }
 {
     for i in 0..blocks(n) {
-        block_at(s, n, i)?;
+        block_at(s, n, i as u64)?;
     }
     Ok(())
 }
 
-fn judge_l2_table<S: Store>(s: &S, n: Numbers, l2: u64, first: u64) -> Result<(), Fault>
-    requires { first ≤ 2 ^ 62 }
-    ensures value { result ≡ l2_judged n (S.Store.bytes s.now) l2 first }
+// The L2 table at `l2`, which the i-th L1 entry leads to.
+fn judge_l2_table<S: Store>(s: &S, n: Numbers, l2: u64, i: u32) -> Result<(), Fault>
+    ensures value { result ≡ l2_judged n (S.Store.bytes s.now) l2 (i * per_table n) }
 {
+    let first = i as u64 * n.table_entries();
     let end = first + n.table_entries();
     for g in first..end {
         l2_at(s, n, l2, g)?;
@@ -30,15 +32,14 @@ fn judge_l2_table<S: Store>(s: &S, n: Numbers, l2: u64, first: u64) -> Result<()
     Ok(())
 }
 
-fn judge_branch<S: Store>(s: &S, n: Numbers, l1: u64, i: u64) -> Result<(), Fault>
-    requires { i ≤ 2 ^ 20 }
+fn judge_branch<S: Store>(s: &S, n: Numbers, l1: u64, i: u32) -> Result<(), Fault>
     ensures value { result ≡ branch_judged n (S.Store.bytes s.now) l1 i }
 {
-    let e = l1_at(s, n, l1, i)?;
+    let e = l1_at(s, n, l1, i as u64)?;
     if e.offset == 0 {
         return Ok(());
     }
-    judge_l2_table(s, n, e.offset, i * n.table_entries())
+    judge_l2_table(s, n, e.offset, i)
 }
 
 fn judge_tree<S: Store>(s: &S, n: Numbers, l1: u64) -> Result<(), Fault>

@@ -10,11 +10,11 @@ use store::{Store, read_number};
 use tables::{block_place, judge_block};
 
 // The entries of an L1 table that count; a good header has no more than fill a cluster.
-pub fn l1_entries(n: Numbers) -> u64
+pub fn l1_entries(n: Numbers) -> u32
     ensures value { result ≡ entries_of n }
     ensures most { result ≤ 2 ^ 18 }
 {
-    (n.entries as u64).min(n.table_entries())
+    n.entries.min(n.table_entries() as u32)
 }
 
 // Where the i-th entry of a table stands.
