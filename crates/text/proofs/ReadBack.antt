@@ -1,35 +1,24 @@
 -- What is written in decimal or in pairs of paired digits is read back as it was. Assumes nothing.
 --   paired   two digits for each byte
-use Rattle.std.proofs.Common.{◌≡◌, ℕ, ◌+◌, ◌-◌, ◌*◌, ◌/◌, ◌%◌, ◌^◌, ◌<◌, ◌≤◌, true, false, cond, ltb, leb, List, [], ◌∷◌, ◌++◌, Some, None, decimal, Option, unwrap_or, sym, refl, ap, ◌∙◌, inl, inr, arith}
+use Rattle.std.proofs.Common.{◌≡◌, ℕ, ◌+◌, ◌*◌, ◌/◌, ◌%◌, ◌^◌, ◌<◌, List, [], ◌∷◌, ◌++◌, Some, None, decimal, Option, unwrap_or, sym, refl, ap, ◌∙◌, arith}
+use Rattle.std.proofs.lemmas.Bool.Decides.{nat_tests}
 use Rattle.std.proofs.lemmas.Fmt.{decimal_by_steps}
+use Rattle.std.proofs.lemmas.Grind.{common_steps}
 use Rattle.std.proofs.lemmas.List.{append-nil, append_assoc}
-use Rattle.std.proofs.lemmas.Bool.{cond-true, cond-false, le-leb, lt-leb, lt-ltb, le-ltb, and_from, and_right, cases_lt}
 use Rattle.std.specs.Char.{digit_char}
 use Rattle.std.specs.Option.{option_to_list}
 use Rattle.std.specs.List.{AllByRecursion as All}
-use Rattle.text.specs.Values.{opt_then, within, short, digit_more, number_on, number, nibble, octet, spelled_on, hex_bytes}
+use Rattle.text.specs.Values.{opt_then, digit_more, number_on, number, nibble, octet, spelled_on, hex_bytes}
 use Rattle.text.specs.declared.values.Form.TheVariants.{Hexadecimal}
 use Rattle.text.specs.declared.values.Next.{Next}
 use Rattle.text.specs.declared.values.Next.TheVariants.{High}
 
-inside : (low high c : ℕ) → low ≤ c → c ≤ high → within low high c ≡ true
-inside low high c l h = and_from (leb low c) (leb c high) (le-leb low c l) (le-leb c high h)
-
-above : (low high c : ℕ) → high < c → within low high c ≡ false
-above low high c h = and_right (leb low c) (leb c high) (lt-leb c high h)
-
 -- one digit more
 digit : (begun : Option ℕ) (m d : ℕ) → unwrap_or begun 0 ≡ m → d < 10 → m * 10 + d < 2 ^ 64 → digit_more begun (48 + d) ≡ Some (m * 10 + d)
-digit begun m d e small fits =
-    let n = unwrap_or begun 0 * 10 + (48 + d - 48) in
-    let is : n ≡ m * 10 + d = omega arith in
-    cond-true (within 48 57 (48 + d)) (short n) None (inside 48 57 (48 + d) (omega arith) (omega arith)) ∙ ap short is ∙ cond-true (ltb (m * 10 + d) (2 ^ 64)) (Some (m * 10 + d)) None (lt-ltb (m * 10 + d) (2 ^ 64) fits)
-
-some_never : (n : ℕ) → None ≡ Some n → ⊥
-some_never n e = let z : ◌≡◌ {A = ℕ} 0 1 = cc in omega arith
+digit begun m d e small fits = grind (arith, nat_tests, common_steps)
 
 under : (o : Option ℕ) (f g : ℕ → Option ℕ) (m n : ℕ) → ((k : ℕ) → f k ≡ Some m → g k ≡ Some n) → opt_then o f ≡ Some m → opt_then o g ≡ Some n
-under None f g m n each e = absurd (some_never m e)
+under None f g m n each e = cc
 under (Some k) f g m n each e = each k e
 
 number_push : (begun : Option ℕ) (ds : List ℕ) (c m n : ℕ) → number_on begun ds ≡ Some m → digit_more (Some m) c ≡ Some n → number_on begun (ds ++ c ∷ []) ≡ Some n
@@ -44,16 +33,7 @@ number_read n fits =
     n fits fits
 
 nibble-read : (d : ℕ) → d < 16 → nibble (digit_char d) ≡ Some d
-nibble-read d small = elim (cases_lt d 10) [
-  | inl lt ↦
-      let c = 48 + d in
-      let is : c - 48 ≡ d = omega arith in
-      ap nibble (cond-true (ltb d 10) c (87 + d) (lt-ltb d 10 lt)) ∙ cond-true (within 48 57 c) (Some (c - 48)) (cond (within 97 102 c) (Some (c - 87)) (cond (within 65 70 c) (Some (c - 55)) None)) (inside 48 57 c (omega arith) (omega arith)) ∙ ap (λ k. Some k) is
-  | inr ge ↦
-      let c = 87 + d in
-      let is : c - 87 ≡ d = omega arith in
-      ap nibble (cond-false (ltb d 10) (48 + d) c (le-ltb d 10 ge)) ∙ cond-false (within 48 57 c) (Some (c - 48)) (cond (within 97 102 c) (Some (c - 87)) (cond (within 65 70 c) (Some (c - 55)) None)) (above 48 57 c (omega arith)) ∙ cond-true (within 97 102 c) (Some (c - 87)) (cond (within 65 70 c) (Some (c - 55)) None) (inside 97 102 c (omega arith) (omega arith)) ∙ ap (λ k. Some k) is
-]
+nibble-read d small = grind (arith, nat_tests, common_steps)
 
 octet-read : (b : ℕ) → b < 256 → octet (digit_char (b / 16 % 16)) (digit_char (b % 16)) ≡ Some b
 octet-read b small =
