@@ -4,7 +4,7 @@ use Rattle.format.specs.declared.numbers.Numbers.{Numbers}
 use Rattle.tables.specs.Refcounts.{count}
 use Rattle.tally.specs.Words.{kind_in, mark_in}
 use Rattle.image_check.specs.Totals.{sum, sum_by, one, leaks, lacks, repeats}
-use Rattle.image_check.proofs.Sums.{sum_more, sum_none, one_most}
+use Rattle.image_check.proofs.Sums.{sum_more, one_most}
 
 -- what was found up to a place and what is left give the whole
 abbrev pub Left : (ℕ → ℕ → Bool) → List ℕ → ℕ → ℕ → Type 0
@@ -14,9 +14,6 @@ pub left_more : (f : ℕ → ℕ → Bool) (words : List ℕ) (found i x : ℕ) 
 left_more f words found i x lt e inv =
     let more = sum_more (λ h. one (f h (get_or words h 0))) i (length words) lt in
     (omega (arith, more, e, inv.0), omega (arith, e, one_most (f i (get_or words i 0)), inv.1))
-
-pub left_none : (f : ℕ → ℕ → Bool) (words : List ℕ) (found i : ℕ) → length words ≤ i → Left f words found i → found ≡ sum_by f words (length words)
-left_none f words found i le inv = omega (arith, sum_none (λ h. one (f h (get_or words h 0))) i (length words) le, inv.0)
 
 -- the four tests of a word
 module _ (n : Numbers) (bs : List ℕ) where

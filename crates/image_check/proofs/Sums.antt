@@ -11,13 +11,10 @@ use Rattle.std.specs.Int.{from_bool}
 use Rattle.std.proofs.lemmas.Bool.{cases_eq}
 use Rattle.image_check.specs.Totals.{sum, one}
 
--- up to number e: one more, and none left
+-- up to number e: one more
 module _ (f : ℕ → ℕ) (i e : ℕ) where
   pub sum_more : i < e → sum f i (e - i) ≡ f i + sum f (i + 1) (e - (i + 1))
   sum_more lt = let h : e - i ≡ suc (e - (i + 1)) = omega arith in ap (sum f i) h
-
-  pub sum_none : e ≤ i → sum f i (e - i) ≡ 0
-  sum_none le = let h : e - i ≡ 0 = omega arith in ap (sum f i) h
 
 -- as the library has it, and at most so much
 pub sum_range : (f : ℕ → ℕ) (k i : ℕ) → sum_by f (range_with_len i k) ≡ sum f i k

@@ -1,4 +1,6 @@
 // The walk that counts: each reference is noted in the word of its cluster. All entries were judged good before.
+#![tactic(auto, using(crate::proofs::Touched::gather_more))]
+
 ghost use Rattle.std.specs.Prelude.{◌≡◌, ◌+◌, ◌*◌, ◌^◌, ◌≤◌, [], ◌∷◌};
 ghost use Rattle.format.specs.Clusters.{per_table};
 ghost use Rattle.walk.specs.References.{gather, named, l2_at, entry_refs, l2_refs, branch_refs, tree_refs, table_refs, block_at, named_block, block_refs, record_refs};

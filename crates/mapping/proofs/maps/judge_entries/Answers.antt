@@ -1,4 +1,4 @@
-use Rattle.std.proofs.Common.{sym, ◌∙◌}
+use Rattle.std.proofs.Common.{arith, sym, ◌∙◌}
 use Rattle.std.proofs.lemmas.Result.{err_from_is_err_and}
 use Rattle.fault.proofs.Outcomes.{each_bad, each-good}
 use Rattle.guest.specs.Shown.{guest_entry}
@@ -11,6 +11,4 @@ returns-in_err-entry_of g c =
     rw (p.1, p.2) (record { value = sym (sym c.loop-g.invariant ∙ each_bad f c.loop-g.g c.args.clusters c.loop-g-test.true _ c.in_err-entry_of.ensures.value) })
 
 pub loop-g-preserved : goal.loop-g-preserved
-loop-g-preserved g c =
-    let f = guest_entry c.args.n (g.S.Store.bytes c.args.s.now) c.args.l1 in
-    sym (each-good f c.loop-g.g c.args.clusters c.loop-g-test.true _ c.in_ok-entry_of.ensures.value) ∙ c.loop-g.invariant
+loop-g-preserved g c = grind (arith, each-good)

@@ -13,7 +13,4 @@ returns-in_err-block_at g c =
     rw (p.1, p.2) (record { value = sym (sym c.loop-i.invariant ∙ each_bad f c.loop-i.i (blocks c.args.n) lt _ c.in_err-block_at.ensures.value) })
 
 pub loop-i-preserved : goal.loop-i-preserved
-loop-i-preserved g c =
-    let f = block_at c.args.n (g.S.Store.bytes c.args.s.now) in
-    let lt : c.loop-i.i < blocks c.args.n = omega (arith, c.blocks-i-end.ensures.value) in
-    sym (each-good f c.loop-i.i (blocks c.args.n) lt _ c.in_ok-block_at.ensures.value) ∙ c.loop-i.invariant
+loop-i-preserved g c = grind (arith, each-good)

@@ -1,4 +1,4 @@
-use Rattle.std.proofs.Common.{◌+◌, ◌*◌, sym, ◌∙◌}
+use Rattle.std.proofs.Common.{arith, ◌+◌, ◌*◌, sym, ◌∙◌}
 use Rattle.std.proofs.lemmas.Result.{err_from_is_err_and}
 use Rattle.fault.proofs.Outcomes.{each_bad, each-good}
 use Rattle.walk.specs.References.{l2_at}
@@ -11,6 +11,4 @@ returns-in_err-l2_at g c =
     rw (p.1, p.2) (record { value = sym (sym c.loop-g.invariant ∙ each_bad f c.loop-g.g (c.args.i * c.table_entries.result + c.table_entries-2.result) c.loop-g-test.true _ c.in_err-l2_at.ensures.value) })
 
 pub loop-g-preserved : goal.loop-g-preserved
-loop-g-preserved g c =
-    let f = l2_at c.args.n (g.S.Store.bytes c.args.s.now) c.args.l2 in
-    sym (each-good f c.loop-g.g (c.args.i * c.table_entries.result + c.table_entries-2.result) c.loop-g-test.true _ c.in_ok-l2_at.ensures.value) ∙ c.loop-g.invariant
+loop-g-preserved g c = grind (arith, each-good)
