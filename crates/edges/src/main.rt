@@ -71,10 +71,8 @@ fn header_case(rt: &HostRuntime, what: &str, numbers: &str) -> anyhow::Result<()
 // Version, cluster bits, size, letters of the name, bytes in use, limit.
 fn create_case(rt: &HostRuntime, what: &str, numbers: &str) -> anyhow::Result<()> {
     let mut given = [0u64; 6];
-    for (i, word) in numbers.split_whitespace().enumerate() {
-        if i < given.len() {
-            given[i] = word.parse::<u64>()?;
-        }
+    for (slot, word) in given.iter_mut().zip(numbers.split_whitespace()) {
+        *slot = word.parse()?;
     }
     let [version, bits, size, letters, used, limit] = given;
     let name = [b'n'; 2048];

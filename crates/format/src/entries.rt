@@ -1,5 +1,6 @@
 // Entries of L1 and L2 tables: what the 64 bits say, judged.
-ghost use Rattle.std.specs.Prelude.{◌≡◌, Bool};
+ghost use Rattle.std.specs.Prelude.{◌≡◌, ◌+◌, ◌*◌, Bool};
+ghost use Rattle.store.specs.Words.{held};
 ghost use Rattle.format.specs.Entries.{offset_in, copied_in, zero_in, placed as placed_by, l1_plain, l2_plain, l1_entry, l2_entry};
 
 use crate::numbers::Numbers;
@@ -20,6 +21,13 @@ impl Entry {
         copied: false,
         zero: false,
     };
+}
+
+// Where the i-th entry of a table stands; a place past 64 bits is past every store.
+pub fn entry_place(table: u64, i: u64) -> u64
+    ensures value { result ≡ held (table + i * 8) }
+{
+    table.saturating_add(i.saturating_mul(8))
 }
 
 const ABOVE_OFFSET: u64 = 1 << 56;
@@ -65,33 +73,28 @@ pub fn judge_l1(n: Numbers, length: u64, place: u64, word: u64) -> Result<Entry,
 {
     let offset = offset_in(word);
     let copied = copied_in(word);
-    if plain_l1(word) && placed(n, length, offset, copied) {
-        Ok(Entry {
-            offset,
-            copied,
-            zero: false,
-        })
-    } else {
-        Err(Fault::new(Reason::BadEntry, Layer::Tables, place))
-    }
+    let good = plain_l1(word) && placed(n, length, offset, copied);
+    Layer::Tables.demand(good, Reason::BadEntry, place)?;
+    Ok(Entry {
+        offset,
+        copied,
+        zero: false,
+    })
 }
 
 // Judges an L2 entry likewise; a compressed one is refused as such, whatever else is wrong with it.
 pub fn judge_l2(n: Numbers, length: u64, place: u64, word: u64) -> Result<Entry, Fault>
     ensures value { result ≡ l2_entry n length place word }
 {
-    if word / (1 << 62) % 2 == 1 {
-        return Err(Fault::new(Reason::Compressed, Layer::Tables, place));
-    }
+    let plain = word / (1 << 62) % 2 != 1;
+    Layer::Tables.demand(plain, Reason::Compressed, place)?;
     let offset = offset_in(word);
     let copied = copied_in(word);
-    if plain_l2(n, word) && placed(n, length, offset, copied) {
-        Ok(Entry {
-            offset,
-            copied,
-            zero: word % 2 == 1,
-        })
-    } else {
-        Err(Fault::new(Reason::BadEntry, Layer::Tables, place))
-    }
+    let good = plain_l2(n, word) && placed(n, length, offset, copied);
+    Layer::Tables.demand(good, Reason::BadEntry, place)?;
+    Ok(Entry {
+        offset,
+        copied,
+        zero: word % 2 == 1,
+    })
 }

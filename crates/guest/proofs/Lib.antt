@@ -1,4 +1,3 @@
-mod Places
 pub mod Entered
 pub mod Guests
 pub mod Sounding

@@ -6,7 +6,7 @@ ghost use Rattle.guest.specs.Shown.{guest_sectors, mount_sectors, guest_clusters
 
 use disk::Disk;
 use fault::Fault;
-use format::{Entry, Numbers, judge_l1, judge_l2};
+use format::{Entry, Numbers, entry_place, judge_l1, judge_l2};
 use store::{Store, read_number};
 
 // The guest's sectors; a size of 64 bits has at most 2^55.
@@ -34,13 +34,13 @@ pub fn guest_clusters(n: Numbers) -> u64
 fn l1_place(n: Numbers, table: u64, cluster: u64) -> u64
     ensures value { result ≡ l1_place n table cluster }
 {
-    table.saturating_add(cluster / n.table_entries() * 8)
+    entry_place(table, cluster / n.table_entries())
 }
 
 fn l2_place(n: Numbers, table: Entry, cluster: u64) -> u64
     ensures value { result ≡ l2_place n table cluster }
 {
-    table.offset.saturating_add(cluster % n.table_entries() * 8)
+    entry_place(table.offset, cluster % n.table_entries())
 }
 
 fn entry_under<S: Store>(s: &S, n: Numbers, cluster: u64, table: Entry) -> Result<Entry, Fault>

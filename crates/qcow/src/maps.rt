@@ -29,12 +29,9 @@ fn print_run<W: Write>(out: &mut W, run: Run, cluster: u64) -> io::Result<()> {
 fn print_runs(rt: &HostRuntime, words: &[u32], cluster: u64) -> io::Result<()> {
     let mut out = BufWriter::new(rt.alloc(), rt.stdout())?;
     let mut at = 0;
-    for _ in 0..words.len() {
-        let Some(run) = run_at(words, at) else {
-            break;
-        };
+    while let Some(run) = run_at(words, at) {
         print_run(&mut out, run, cluster)?;
-        at = run.start.saturating_add(run.length);
+        at = run.start + run.length;
     }
     out.flush()
 }

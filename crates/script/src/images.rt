@@ -28,7 +28,7 @@ pub(crate) const NO_MOUNT: &'static str = "no mount";
 fn held(n: u64) -> u32
     ensures value { result ≡ held_of n }
 {
-    n.min(u32::MAX as u64) as u32
+    u32::try_from(n).unwrap_or(u32::MAX)
 }
 
 // What a new mount of the store judges; the backing disk plays no part in that.

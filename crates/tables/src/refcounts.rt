@@ -4,7 +4,7 @@ ghost use Rattle.tables.specs.Refcounts.{per_block, blocks as blocks_of, block_p
 
 use byte_lists::within;
 use fault::{Fault, Layer, Reason};
-use format::Numbers;
+use format::{Numbers, entry_place};
 use store::{Store, read_number};
 
 // The counts of a block.
@@ -38,7 +38,7 @@ pub fn judge_block(n: Numbers, length: u64, place: u64, word: u64) -> Result<u64
 pub fn block_place(n: Numbers, block: u64) -> u64
     ensures value { result ≡ block_place n block }
 {
-    n.refcounts.saturating_add(block.saturating_mul(8))
+    entry_place(n.refcounts, block)
 }
 
 // The entry of a block as it stands; past the table's reach there is none.

@@ -1,10 +1,9 @@
 // The entries that the walk meets, read and judged.
 ghost use Rattle.std.specs.Prelude.{◌≡◌, ◌+◌, ◌*◌, ◌^◌, ◌≤◌};
-ghost use Rattle.store.specs.Words.{held};
 ghost use Rattle.walk.specs.References.{l1_at, l2_judged_at, l2_at, block_at, entries_of};
 
 use fault::{Fault, Layer, Reason};
-use format::{Entry, Numbers, judge_l1, judge_l2};
+use format::{Entry, Numbers, entry_place, judge_l1, judge_l2};
 use guest::guest_clusters;
 use store::{Store, read_number};
 use tables::{block_place, judge_block};
@@ -15,13 +14,6 @@ pub fn l1_entries(n: Numbers) -> u32
     ensures most { result ≤ 2 ^ 18 }
 {
     n.entries.min(n.table_entries() as u32)
-}
-
-// Where the i-th entry of a table stands.
-fn entry_place(table: u64, i: u64) -> u64
-    ensures value { result ≡ held (table + i * 8) }
-{
-    table.saturating_add(i.saturating_mul(8))
 }
 
 pub fn l1_at<S: Store>(s: &S, n: Numbers, l1: u64, i: u64) -> Result<Entry, Fault>
