@@ -22,8 +22,8 @@ pub fn backing_name<'a>(n: &Numbers, front: &'a [u8]) -> Option<&'a [u8]>
 
 // The path of the file below, from the name's bytes.
 pub(crate) fn below(heap: Global, path: &str, name: &[u8]) -> Result<String, Stop> {
-    match std::str::from_utf8(name) {
-        Ok(text) => Ok(joined(heap, path, text)?),
-        Err(_) => Err(Stop::said(format!(in heap; "{path}: the backing name is no UTF-8 text"))),
-    }
+    let text = std::str::from_utf8(name).map_err(|_| {
+        Stop::said(format!(in heap; "{path}: the backing name is no UTF-8 text"))
+    })?;
+    Ok(joined(heap, path, text)?)
 }

@@ -92,11 +92,10 @@ pub fn load_alone(rt: &HostRuntime, path: &str) -> Result<MemoryStore, Stop> {
 fn load_spoiled(rt: &HostRuntime, path: &str) -> Result<Vec<u64>, Stop> {
     let heap = rt.alloc();
     let text = fs::read_to_string(rt, path).map_err(|e| failed(heap, path, e))?;
-    match spoiled_in(heap, text.as_str()) {
-        Ok(list) => Ok(list),
-        Err(BadList::OutOfMemory) => Err(Stop::Memory),
-        Err(e) => Err(Stop::Said(format!(in heap; "{path}: {e}")?)),
-    }
+    spoiled_in(heap, text.as_str()).map_err(|e| match e {
+        BadList::OutOfMemory => Stop::Memory,
+        BadList::Line(_) => Stop::said(format!(in heap; "{path}: {e}")),
+    })
 }
 
 // The list for the raw file at the bottom; a list where there is no such file is a mistake.
@@ -107,9 +106,9 @@ fn spoiled_for(rt: &HostRuntime, links: &[Link], list: Option<&str>) -> Result<V
     };
     match links.last() {
         Some(Link { image: false, .. }) => load_spoiled(rt, path),
-        _ => Err(Stop::Said(format!(in heap;
+        _ => Err(Stop::said(format!(in heap;
             "{path}: no raw backing file whose spoiled sectors these could be"
-        )?)),
+        ))),
     }
 }
 

@@ -7,13 +7,13 @@ use std::{fs, process};
 
 // Refuses a file that exists, and leaves it as it is.
 pub(crate) fn judge_new(rt: &HostRuntime, path: &str) -> Result<(), Stop> {
-    match fs::exists(rt, path) {
-        Ok(false) => Ok(()),
-        Ok(true) => Err(Stop::said(format!(in rt.alloc();
+    let taken = fs::exists(rt, path).map_err(|e| failed(rt.alloc(), path, e))?;
+    if taken {
+        return Err(Stop::said(format!(in rt.alloc();
             "{path}: exists already, and is left as it is"
-        ))),
-        Err(e) => Err(failed(rt.alloc(), path, e)),
+        )));
     }
+    Ok(())
 }
 
 // The name under which a file is written.

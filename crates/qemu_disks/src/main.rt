@@ -118,20 +118,13 @@ fn equal_in<S: Store, B: Disk>(
 
 // Maps the disk and compares it.
 fn compare<S: Store, B: Disk>(
-    heap: Global,
     m: &Mount<S, B>,
     id: &[u8],
+    words: &mut [u32],
     expected: &[u8],
-) -> Result<Result<u64, Fault>, Stop> {
-    let n = match m.numbers() {
-        Ok(n) => n,
-        Err(f) => return Ok(Err(f)),
-    };
-    let mut words = vec![in heap; 0u32; guest_clusters(n) as usize]?;
-    match map(m, id, words.as_mut_slice()) {
-        Ok(()) => Ok(equal_in(m, id, words.as_slice(), expected)),
-        Err(f) => Ok(Err(f)),
-    }
+) -> Result<u64, Fault> {
+    map(m, id, words)?;
+    equal_in(m, id, words, expected)
 }
 
 // The name that a disk of the list has for the calls.
@@ -168,7 +161,8 @@ fn hold(rt: &HostRuntime, name: &str, id: &str, raw: &str) -> Result<(), Stop> {
         judge_counts(rt, &mut m, n)?;
     }
     let expected = fs::read(rt, raw)?;
-    let equal = compare(heap, &m, id_of(id), expected.as_slice())?
+    let mut words = vec![in heap; 0u32; guest_clusters(n) as usize]?;
+    let equal = compare(&m, id_of(id), words.as_mut_slice(), expected.as_slice())
         .map_err(|f| refused(heap, paths.as_slice(), f))?;
     if equal != sectors_of(n) || expected.len() as u64 != n.size {
         return Err(differs(heap, raw, equal, sectors_of(n)));

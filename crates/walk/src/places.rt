@@ -37,14 +37,10 @@ fn judge_walked(
     if cluster < guest_clusters(n) {
         return judge_l2(n, length, place, word);
     }
-    if word / (1 << 62) % 2 == 1 {
-        return Err(Fault::new(Reason::Compressed, Layer::Tables, place));
-    }
-    if word == 0 {
-        Ok(Entry::EMPTY)
-    } else {
-        Err(Fault::new(Reason::BadEntry, Layer::Tables, place))
-    }
+    let plain = word / (1 << 62) % 2 != 1;
+    Layer::Tables.demand(plain, Reason::Compressed, place)?;
+    Layer::Tables.demand(word == 0, Reason::BadEntry, place)?;
+    Ok(Entry::EMPTY)
 }
 
 pub fn l2_at<S: Store>(s: &S, n: Numbers, l2: u64, cluster: u64) -> Result<Entry, Fault>
