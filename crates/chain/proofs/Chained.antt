@@ -1,19 +1,19 @@
 -- A chain by its top layer: what it shows and what is below. Assumes nothing.
-use Rattle.std.proofs.Common.{◌≡◌, ℕ, ◌+◌, ◌-◌, ◌*◌, ◌/◌, ◌%◌, ◌^◌, ◌<◌, ◌≤◌, min, Bool, true, false, cond, not, ◌&&◌, ◌||◌, eqb, ltb, leb, List, [], ◌∷◌, length, get_or, take, drop, Ok, Err, Result, sym, refl, ap, ◌∙◌, subst, inl, inr, arith}
+use Rattle.std.proofs.Common.{◌≡◌, ℕ, ◌+◌, ◌-◌, ◌*◌, ◌/◌, ◌%◌, ◌^◌, ◌<◌, ◌≤◌, min, Bool, true, false, cond, not, ◌&&◌, ◌||◌, eqb, ltb, leb, List, [], ◌∷◌, length, get_or, take, drop, Ok, Err, Result, sym, refl, ap, ◌∙◌, inl, inr, arith}
 use Rattle.std.proofs.lemmas.List.{take_rest}
 use Rattle.std.proofs.lemmas.Bool.{cond-true, cond-false, lt-ltb, le-ltb, le-leb, lt-leb, ltb-true, ltb-false, and_parts, and_cases, not-true, not-false, or_left, or_right, or_from, false≢true}
 use Rattle.fault.specs.declared.Fault.{Fault}
 use Rattle.fault.specs.Outcomes.{and_then}
-use Rattle.byte_lists.specs.Runs.{zeros, Octets}
+use Rattle.byte_lists.specs.Runs.{zeros}
 use Rattle.store.specs.Stores.{load}
-use Rattle.disk.specs.Readings.{Reading, Sound, past_end}
+use Rattle.disk.specs.Readings.{Reading, past_end}
 use Rattle.disk.specs.Disks.{zeros_reading}
 use Rattle.format.specs.declared.numbers.Numbers.{Numbers}
 use Rattle.format.specs.Clusters.{per_cluster}
 use Rattle.format.specs.declared.entries.Entry.{Entry}
 use Rattle.store.specs.Words.{held}
 use Rattle.guest.specs.Shown.{mount_sectors, mount_reading, guest_entry, passed_up, under, entry_shows, shows}
-use Rattle.guest.proofs.Sounding.{sound_mount, mount_reading-by_sector, sector_by_sector}
+use Rattle.guest.proofs.Sounding.{mount_reading-by_sector, sector_by_sector}
 use Rattle.chain.specs.Chains.{chain_of}
 
 module _ {L : Type 0} (header : L → Result Numbers Fault) (bytes : L → List ℕ) (base : Reading) where
@@ -45,10 +45,6 @@ module _ {L : Type 0} (header : L → Result Numbers Fault) (bytes : L → List 
 
     pub top_sectors : (chain_of header bytes ls base).sectors ≡ mount_sectors (header x)
     top_sectors = ap (λ r. r.sectors) seen
-
-    pub top_sound : Octets (bytes x) → Sound (chain_of header bytes rest base) → Sound (chain_of header bytes ls base)
-    unfolding below
-    top_sound o s = subst Sound (sym top) (sound_mount (header x) (bytes x) below o s)
 
     pub top_past : (s : ℕ) → mount_sectors (header x) ≤ s → (chain_of header bytes ls base).answer s ≡ past_end s
     top_past s h = ap (λ r. r.answer s) seen ∙ cond-false (ltb s (mount_sectors (header x))) _ _ (le-ltb s (mount_sectors (header x)) h)

@@ -1,7 +1,7 @@
 // A chain is a disk: what nested mounts would answer, layer by layer.
-ghost use Rattle.chain.specs.Chains.{chain_of};
+ghost use Rattle.chain.specs.Chains.{chain_of, sound_chain};
 
-use crate::layers::{Layer, know_sound, read_layers, sectors_in};
+use crate::layers::{Layer, read_layers, sectors_in};
 use disk::Disk;
 use fault::Fault;
 use store::Store;
@@ -16,8 +16,9 @@ pub struct Chain<'a, S, B> {
 impl<S: Store, B: Disk> Disk for Chain<'_, S, B> {
     ghost reading = { λ d. chain_of (λ l. l.header) (λ l. S.Store.bytes l.store) d.layers.now (B.Disk.reading d.base) };
 
+    ghost sound = { λ d. sound_chain (λ l. l.header) (λ l. S.Store.bytes l.store) (λ l. S.Store.octets l.store) (B.Disk.reading d.base) (B.Disk.sound d.base) d.layers.now };
+
     fn sectors(&self) -> u64 {
-        know_sound(self.layers, &self.base);
         sectors_in(self.layers, &self.base)
     }
 

@@ -1,6 +1,5 @@
 // The layers of a chain, the top one first, read one after another.
 ghost use Rattle.std.specs.Prelude.{◌≡◌, Bool, not, ◌&&◌, ◌==◌, nat_lt};
-ghost use Rattle.disk.specs.Readings.{Sound};
 ghost use Rattle.fault.specs.Outcomes.{Gives};
 ghost use Rattle.chain.specs.Chains.{chain_of};
 
@@ -23,21 +22,6 @@ pub(crate) fn sectors_in<S: Store, B: Disk>(layers: &[Layer<S>], base: &B) -> u6
     match layers {
         [] => base.sectors(),
         [top, ..] => mount_sectors(top.header),
-    }
-}
-
-// What every disk owes, from what each layer's store and the base owe.
-pub(crate) fn know_sound<S: Store, B: Disk>(layers: &[Layer<S>], base: &B)
-    ensures sound { Sound (chain_of (λ l. l.header) (λ l. S.Store.bytes l.store) layers.now (B.Disk.reading base.now)) }
-{
-    match layers {
-        [] => {
-            let _ = base.sectors();
-        }
-        [top, under @ ..] => {
-            let _ = top.store.length();
-            know_sound(under, base);
-        }
     }
 }
 

@@ -1,2 +1,1 @@
-pub mod Sounds
 mod Sectors

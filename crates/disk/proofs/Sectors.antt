@@ -7,18 +7,6 @@ use Rattle.byte_lists.proofs.Runs.{length_run, length-grow}
 use Rattle.byte_lists.proofs.Octets.{octets_run, octets_grow}
 use Rattle.disk.specs.Disks.{sector}
 
-short : (bs : List ℕ) (at n : ℕ) → length (run bs at n) ≤ n
-unfolding run
-short bs at n = omega (arith, length-take n (drop at bs))
-
-pub length-sector : (bs : List ℕ) (s : ℕ) → length (sector bs s) ≡ 512
-unfolding sector
-length-sector bs s = length-grow (run bs (s * 512) 512) 512 (short bs (s * 512) 512)
-
-pub octets_sector : (bs : List ℕ) (s : ℕ) → Octets bs → Octets (sector bs s)
-unfolding sector
-octets_sector bs s o = octets_grow (run bs (s * 512) 512) 512 (octets_run bs (s * 512) 512 o)
-
 -- a run that passes the end is what there is
 run_cut : (bs : List ℕ) (at m n : ℕ) → n ≡ min (length bs - at) m → run bs at m ≡ run bs at n
 unfolding run

@@ -1,2 +1,3 @@
 pub mod Readings
 pub mod Disks
+pub mod Sounds

@@ -22,12 +22,13 @@ pub trait Disk {
     // the number of sectors with all their answers
     ghost reading: { Self → Reading };
 
-    // Every disk owes `sound`: at most 2^55 sectors, 512 bytes or a fault for each, a refusal past the end.
     fn sectors(&self) -> u64
-        ensures value { result ≡ (reading self.now).sectors }
-        ensures sound { Sound (reading self.now) };
+        ensures value { result ≡ (reading self.now).sectors };
 
     // Reads one sector; a refusal leaves `out` alone.
     fn read_sector(&self, sector: u64, out: &mut [u8; 512]) -> Result<(), Fault>
         ensures outcome { Gives result ((reading self.now).answer sector) out.old out.new };
+
+    // a disk has at most 2^55 sectors, 512 bytes or a fault for each, a refusal past the end
+    ghost sound: { (d : Self) → Sound (reading d) };
 }

@@ -1,15 +1,15 @@
 // The raw disk: a byte list, a part sector at its end filled with zeros.
-ghost use Rattle.std.specs.Prelude.{◌≡◌, ◌*◌, ◌^◌, ◌≤◌, length};
-ghost use Rattle.byte_lists.specs.Runs.{Octets};
+ghost use Rattle.std.specs.Prelude.{◌≡◌, ℕ, ◌*◌, ◌^◌, ◌<◌, ◌≤◌, length, slice_index};
 ghost use Rattle.disk.specs.Disks.{raw_reading, sectors_of, sector as sector_of};
 
 use crate::Disk;
-use byte_lists::length_of;
 use fault::{Fault, Layer, Reason};
 
 #[derive(Clone, Copy)]
 pub struct RawDisk<'a> {
     list: &'a [u8],
+    ghost octets: { (i : ℕ) → slice_index list.now i < 256 },
+    ghost most: { sectors_of (length list.now) ≤ 2 ^ 55 },
 }
 
 impl<'a> RawDisk<'a> {
@@ -20,13 +20,12 @@ impl<'a> RawDisk<'a> {
     }
 }
 
-// The begun sectors of a list, and that its elements are bytes.
+// The begun sectors of a list.
 pub(crate) fn sectors_in(list: &[u8]) -> u64
     ensures value { result ≡ sectors_of (length list.now) }
     ensures most { result ≤ 2 ^ 55 }
-    ensures octets { Octets list.now }
 {
-    (length_of(list) as u64).div_ceil(512)
+    (list.len() as u64).div_ceil(512)
 }
 
 // The sector of a list that has it.
@@ -41,7 +40,12 @@ pub(crate) fn copy_sector(list: &[u8], sector: u64, out: &mut [u8; 512])
 }
 
 impl Disk for RawDisk<'_> {
+    ghost use Rattle.byte_lists.proofs.Octets.{octets_of};
+    ghost use Rattle.disk.specs.Sounds.{sound_raw};
+
     ghost reading = { λ d. raw_reading d.list.now };
+
+    ghost sound = { λ d. sound_raw d.list.now d.most (octets_of d.list.now d.octets) };
 
     fn sectors(&self) -> u64 {
         sectors_in(self.list)

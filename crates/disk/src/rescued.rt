@@ -1,6 +1,6 @@
 // The rescued disk: a raw disk some of whose sectors could not be read when it was copied.
-ghost use Rattle.std.specs.Prelude.{◌≡◌, Bool};
-ghost use Rattle.disk.specs.Disks.{rescued_reading, spoilt};
+ghost use Rattle.std.specs.Prelude.{◌≡◌, ℕ, ◌^◌, ◌<◌, ◌≤◌, Bool, length, slice_index};
+ghost use Rattle.disk.specs.Disks.{rescued_reading, sectors_of, spoilt};
 
 use crate::Disk;
 use crate::raw::{copy_sector, sectors_in};
@@ -10,6 +10,8 @@ use fault::{Fault, Layer, Reason};
 pub struct RescuedDisk<'a> {
     list: &'a [u8],
     spoiled: &'a [u64],
+    ghost octets: { (i : ℕ) → slice_index list.now i < 256 },
+    ghost most: { sectors_of (length list.now) ≤ 2 ^ 55 },
 }
 
 impl<'a> RescuedDisk<'a> {
@@ -28,7 +30,12 @@ fn is_spoilt(spoiled: &[u64], sector: u64) -> bool
 }
 
 impl Disk for RescuedDisk<'_> {
+    ghost use Rattle.byte_lists.proofs.Octets.{octets_of};
+    ghost use Rattle.disk.specs.Sounds.{sound_rescued};
+
     ghost reading = { λ d. rescued_reading d.list.now d.spoiled.now };
+
+    ghost sound = { λ d. sound_rescued d.list.now d.spoiled.now d.most (octets_of d.list.now d.octets) };
 
     fn sectors(&self) -> u64 {
         sectors_in(self.list)

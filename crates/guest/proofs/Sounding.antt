@@ -11,7 +11,7 @@ use Rattle.byte_lists.proofs.Runs.{length-zeros, length_run}
 use Rattle.byte_lists.proofs.Octets.{octets_zeros, octets_run}
 use Rattle.store.specs.Stores.{load}
 use Rattle.disk.specs.Readings.{Reading, Sound, shown}
-use Rattle.disk.proofs.Sounds.{Whole, sound_shown}
+use Rattle.disk.specs.Sounds.{Whole, sound_shown}
 use Rattle.format.specs.declared.numbers.Numbers.{Numbers}
 use Rattle.format.specs.declared.entries.Entry.{Entry}
 use Rattle.format.specs.Clusters.{per_cluster}

@@ -1,6 +1,7 @@
 // The mount as a disk: the live reading, so that a mount is a backing disk of another mount, to any depth.
 ghost use Rattle.std.specs.Prelude.{◌≡◌};
 ghost use Rattle.guest.specs.Shown.{mount_reading};
+ghost use Rattle.guest.proofs.Sounding.{sound_mount};
 
 use crate::mount::Mount;
 use disk::Disk;
@@ -12,9 +13,9 @@ use store::Store;
 impl<S: Store, B: Disk> Disk for Mount<S, B> {
     ghost reading = { λ m. mount_reading m.header (S.Store.bytes m.store) (B.Disk.reading m.backing) };
 
+    ghost sound = { λ m. sound_mount m.header (S.Store.bytes m.store) (B.Disk.reading m.backing) (S.Store.octets m.store) (B.Disk.sound m.backing) };
+
     fn sectors(&self) -> u64 {
-        let _ = self.store.length();
-        let _ = self.backing.sectors();
         mount_sectors(self.header)
     }
 

@@ -169,7 +169,7 @@ law_of header bs words after t o e n rs is good =
     (λ c. clean_lawful n bs rs o good (ap found_clean same ∙ c), λ l. ap found_clean (sym same) ∙ lawful_clean n bs rs o good l)
 
 pub lawful_case : (header : Result Numbers Fault) (bs words after : List ℕ) (r : Result (ℕ × ℕ × ℕ × ℕ × ℕ) Fault) →
-    MatchResult r (λ t. check_outcome header bs words ≡ Ok (record { totals = t; words = after })) (λ e. (check_outcome header bs words ≡ Err e) × (after ≡ words)) → IfOk r (λ _. Octets bs) →
+    MatchResult r (λ t. check_outcome header bs words ≡ Ok (record { totals = t; words = after })) (λ e. (check_outcome header bs words ≡ Err e) × (after ≡ words)) → Octets bs →
     IfOk r (λ t. (n : Numbers) (rs : List Snapshot) → header ≡ Ok n → walk n bs ≡ Ok rs → (found_clean t ≡ true → Lawful n bs rs) × (Lawful n bs rs → found_clean t ≡ true))
 lawful_case header bs words after (Ok t) e o = law_of header bs words after t o e
 lawful_case header bs words after (Err f) e o = tt

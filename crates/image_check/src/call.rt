@@ -1,6 +1,5 @@
 // The call: judge all, count all, compare, and mark the mount.
-ghost use Rattle.std.specs.Prelude.{◌≡◌, ℕ, ◌^◌, ◌≤◌, Bool, true, List, map, length, IfOk, Ok, Err, MatchResult, OnOk};
-ghost use Rattle.byte_lists.specs.Runs.{Octets};
+ghost use Rattle.std.specs.Prelude.{◌≡◌, ℕ, ◌^◌, ◌≤◌, Bool, true, List, map, length, IfOk, Ok, Err, MatchResult};
 ghost use Rattle.format.specs.declared.numbers.Numbers.{Numbers};
 ghost use Rattle.snapshot.specs.declared.records.Snapshot.{Snapshot};
 ghost use Rattle.walk.specs.References.{references};
@@ -73,7 +72,6 @@ fn check_and_mark<S: Store, B: Disk>(
     ensures store { m.new.store ≡ m.old.store }
     ensures backing { m.new.backing ≡ m.old.backing }
     ensures numbers { m.new.header ≡ m.old.header }
-    ensures octets { OnOk result (Octets (S.Store.bytes m.old.store)) }
 {
     let n = m.header?;
     let k = clusters(&m.store, n);

@@ -1,6 +1,5 @@
 // Counts past the store's end, in every block that the refcount table names.
 ghost use Rattle.std.specs.Prelude.{◌≡◌, ◌+◌, ◌*◌, ◌^◌, ◌<◌, ◌≤◌, Bool};
-ghost use Rattle.byte_lists.specs.Runs.{Octets};
 ghost use Rattle.tables.specs.Refcounts.{per_block};
 ghost use Rattle.walk.specs.References.{block_at};
 ghost use Rattle.image_check.specs.Totals.{clusters_of, past as past_by, past_in, leaked_past, one, sum};
@@ -14,7 +13,6 @@ use walk::block_at;
 pub(crate) fn clusters<S: Store>(s: &S, n: Numbers) -> u64
     ensures value { result ≡ clusters_of n (S.Store.bytes s.now) }
     ensures most { result ≤ 2 ^ 55 }
-    ensures octets { Octets (S.Store.bytes s.now) }
 {
     s.length() / n.cluster_size()
 }

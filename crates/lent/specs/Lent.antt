@@ -2,11 +2,14 @@
 --   any_bytes      the bytes in use of a store
 --   any_limit      what their length never passes
 --   base_reading   the sectors of a disk
-use Rattle.std.specs.Prelude.{ℕ, List}
-use Rattle.store.specs.Flat.{flat_bytes, flat_limit}
-use Rattle.store.specs.Split.{split_bytes, split_limit}
-use Rattle.disk.specs.Readings.{Reading}
+use Rattle.std.specs.Prelude.{ℕ, ◌≤◌, List, length}
+use Rattle.byte_lists.specs.Runs.{Octets}
+use Rattle.byte_lists.proofs.Octets.{octets_of}
+use Rattle.store.specs.Flat.{flat_bytes, flat_limit, flat_octets, flat_held}
+use Rattle.store.specs.Split.{split_bytes, split_limit, split_octets, split_held}
+use Rattle.disk.specs.Readings.{Reading, Sound}
 use Rattle.disk.specs.Disks.{zeros_reading, raw_reading, rescued_reading}
+use Rattle.disk.specs.Sounds.{sound_zeros, sound_raw, sound_rescued}
 use Rattle.lent.specs.declared.any_store.AnyStore.{AnyStore}
 use Rattle.lent.specs.declared.any_store.AnyStore.TheVariants.{Flat, Split}
 use Rattle.lent.specs.declared.base_disk.BaseDisk.{BaseDisk}
@@ -24,3 +27,17 @@ abbrev pub base_reading : BaseDisk → Reading
 base_reading (Zeros d) = zeros_reading d.count
 base_reading (Raw d) = raw_reading d.list.now
 base_reading (Rescued d) = rescued_reading d.list.now d.spoiled.now
+
+-- what every store and every disk owes
+pub any_octets : (s : AnyStore) → Octets (any_bytes s)
+any_octets (Flat s) = flat_octets s
+any_octets (Split s) = split_octets s
+
+pub any_held : (s : AnyStore) → length (any_bytes s) ≤ any_limit s
+any_held (Flat s) = flat_held s
+any_held (Split s) = split_held s
+
+pub base_sound : (d : BaseDisk) → Sound (base_reading d)
+base_sound (Zeros d) = sound_zeros d.count
+base_sound (Raw d) = sound_raw d.list.now d.most (octets_of d.list.now d.octets)
+base_sound (Rescued d) = sound_rescued d.list.now d.spoiled.now d.most (octets_of d.list.now d.octets)

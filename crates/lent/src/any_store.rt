@@ -1,6 +1,6 @@
 // A flat or a split store.
 ghost use Rattle.std.specs.Prelude.{◌≡◌};
-ghost use Rattle.lent.specs.Lent.{any_bytes, any_limit};
+ghost use Rattle.lent.specs.Lent.{any_bytes, any_limit, any_octets, any_held};
 
 use fault::Fault;
 use store::{FlatStore, SplitStore, Store};
@@ -15,6 +15,10 @@ impl Store for AnyStore<'_> {
     ghost bytes = { any_bytes };
 
     ghost limit = { any_limit };
+
+    ghost octets = { any_octets };
+
+    ghost held = { any_held };
 
     fn length(&self) -> u64 {
         match self {

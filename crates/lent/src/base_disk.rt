@@ -1,6 +1,6 @@
 // A disk that holds no image: zeros, raw or rescued.
 ghost use Rattle.std.specs.Prelude.{◌≡◌};
-ghost use Rattle.lent.specs.Lent.{base_reading};
+ghost use Rattle.lent.specs.Lent.{base_reading, base_sound};
 
 use disk::{Disk, RawDisk, RescuedDisk, ZerosDisk};
 use fault::Fault;
@@ -14,6 +14,8 @@ pub enum BaseDisk<'a> {
 
 impl Disk for BaseDisk<'_> {
     ghost reading = { base_reading };
+
+    ghost sound = { base_sound };
 
     fn sectors(&self) -> u64 {
         match self {

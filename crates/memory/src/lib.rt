@@ -1,10 +1,8 @@
 // A store that owns its bytes, for a layer of a chain of images.
 #![tactic(auto)]
 
-ghost use Rattle.std.specs.Prelude.{◌≡◌};
-ghost use Rattle.memory.specs.Memory.{memory_bytes, memory_limit};
+ghost use Rattle.std.specs.Prelude.{◌≡◌, ℕ, ◌<◌, slice_index};
 
-use byte_lists::length_of;
 use fault::{Fault, Layer, Reason};
 use store::{Store, read_from, replace_in};
 
@@ -12,9 +10,12 @@ use store::{Store, read_from, replace_in};
 #[derive(Drop)]
 pub struct MemoryStore {
     content: Vec<u8>,
+    ghost octets: { (i : ℕ) → slice_index content.items i < 256 },
 }
 
 impl MemoryStore {
+    ghost use Rattle.memory.specs.Memory.{memory_bytes};
+
     pub fn new(content: Vec<u8>) -> MemoryStore
         ensures bytes { memory_bytes result ≡ content.items }
     {
@@ -30,16 +31,22 @@ impl MemoryStore {
 }
 
 impl Store for MemoryStore {
+    ghost use Rattle.memory.specs.Memory.{memory_bytes, memory_limit, memory_octets, memory_held};
+
     ghost bytes = { memory_bytes };
 
     ghost limit = { memory_limit };
 
+    ghost octets = { memory_octets };
+
+    ghost held = { memory_held };
+
     fn length(&self) -> u64 {
-        length_of(self.content.as_slice()) as u64
+        self.content.len() as u64
     }
 
     fn limit(&self) -> u64 {
-        self.content.len() as u64
+        self.length()
     }
 
     fn read(&self, first: u64, out: &mut [u8]) -> Result<(), Fault> {

@@ -1,11 +1,12 @@
 -- What a store's calls give where they are not refused, and where they are. Assumes nothing.
-use Rattle.std.proofs.Common.{◌≡◌, ℕ, ◌+◌, ◌<◌, ◌≤◌, true, ◌&&◌, leb, List, length, take, Ok, Err, Result, sym, refl, ap, ◌∙◌, inl, inr, arith, length-take}
-use Rattle.std.proofs.lemmas.Bool.{cond-true, cond-false, le-leb, lt-leb, leb-true, and_from, cases_lt}
+use Rattle.std.proofs.Common.{◌≡◌, ℕ, ◌+◌, ◌<◌, ◌≤◌, true, ◌&&◌, leb, List, length, take, Ok, Err, Result, sym, refl, ap, ◌∙◌, subst, inl, inr, arith, length-take}
+use Rattle.std.proofs.lemmas.Bool.{cond-true, cond-false, le-leb, lt-leb, leb-true, and_from, cases_lt, cond_both}
 use Rattle.fault.specs.declared.Fault.{Fault}
 use Rattle.fault.specs.declared.Layer.TheVariants.{Store}
 use Rattle.fault.specs.declared.Reason.TheVariants.{PastStore, Growth}
 use Rattle.fault.specs.Faults.{fault}
-use Rattle.byte_lists.specs.Runs.{run, put, grow}
+use Rattle.byte_lists.specs.Runs.{run, put, grow, Octets}
+use Rattle.byte_lists.proofs.Octets.{octets_put}
 use Rattle.fault.specs.Outcomes.{Gives}
 use Rattle.store.specs.Calls.{after}
 use Rattle.store.specs.Stores.{load, stored, grown}
@@ -50,3 +51,9 @@ passed a n m t e = omega (arith, leb-true a n (sym t), e)
 pub left_after : (r : Result (Unit {0}) Fault) (outcome : Result (List ℕ) Fault) (before after' : List ℕ) → Gives r outcome before after' → after' ≡ after before outcome
 left_after (Ok u) outcome before after' g = sym (ap (after before) g)
 left_after (Err e) outcome before after' g = g.1 ∙ sym (ap (after before) g.0)
+
+-- a replacement, refused or not, leaves bytes
+pub octets_left : (r : Result (Unit {0}) Fault) (bs : List ℕ) (first : ℕ) (new left : List ℕ) → Gives r (stored bs first new) bs left → Octets bs → Octets new → Octets left
+octets_left r bs first new left g o p =
+    subst Octets (sym (left_after r (stored bs first new) bs left g))
+        (cond_both (leb (first + length new) (length bs)) (Ok (put bs first new)) (Err (fault PastStore Store first)) (λ x. Octets (after bs x)) (λ _. octets_put bs first new o p) (λ _. o))

@@ -1,20 +1,20 @@
 // The flat store: one byte list of the caller's, its front in use.
-ghost use Rattle.std.specs.Prelude.{◌≡◌, ℕ, ◌≤◌, length, take};
-ghost use Rattle.byte_lists.specs.Runs.{Octets};
-ghost use Rattle.store.specs.Flat.{flat_bytes, flat_limit};
+ghost use Rattle.std.specs.Prelude.{◌≡◌, ℕ, ◌<◌, length, take, slice_index};
 
 use crate::Store;
 use crate::runs::{clear_run, read_from, replace_in};
-use byte_lists::length_of;
 use fault::{Fault, Layer, Reason};
 
 #[derive(Drop)]
 pub struct FlatStore<'a> {
     list: &'a mut [u8],
     used: usize,
+    ghost octets: { (i : ℕ) → slice_index list.now i < 256 },
 }
 
 impl<'a> FlatStore<'a> {
+    ghost use Rattle.store.specs.Flat.{flat_bytes, flat_limit};
+
     // The first `used` bytes of the list, held at its length, which is the limit.
     pub fn new(list: &'a mut [u8], used: usize) -> FlatStore<'a>
         ensures bytes { flat_bytes result ≡ take used list.old }
@@ -25,16 +25,21 @@ impl<'a> FlatStore<'a> {
 
     fn in_use(&self) -> usize
         ensures value { result ≡ length (flat_bytes self.now) }
-        ensures octets { Octets (flat_bytes self.now) }
     {
-        self.used.min(length_of(self.list))
+        self.used.min(self.list.len())
     }
 }
 
 impl Store for FlatStore<'_> {
+    ghost use Rattle.store.specs.Flat.{flat_bytes, flat_limit, flat_octets, flat_held};
+
     ghost bytes = { flat_bytes };
 
     ghost limit = { flat_limit };
+
+    ghost octets = { flat_octets };
+
+    ghost held = { flat_held };
 
     fn length(&self) -> u64 {
         self.in_use() as u64

@@ -27,15 +27,11 @@ pub trait Store {
     // what their length never passes
     ghost limit: { Self → ℕ };
 
-    // Every store owes `octets` and `held`: its elements are bytes, and it never passes its limit.
     fn length(&self) -> u64
-        ensures value { result ≡ length (bytes self.now) }
-        ensures octets { Octets (bytes self.now) }
-        ensures held { length (bytes self.now) ≤ limit self.now };
+        ensures value { result ≡ length (bytes self.now) };
 
     fn limit(&self) -> u64
-        ensures value { result ≡ limit self.now }
-        ensures held { length (bytes self.now) ≤ limit self.now };
+        ensures value { result ≡ limit self.now };
 
     // Reads the run that begins at `first` and fills `out`.
     fn read(&self, first: u64, out: &mut [u8]) -> Result<(), Fault>
@@ -50,4 +46,10 @@ pub trait Store {
     fn grow(&mut self, length: u64) -> Result<(), Fault>
         ensures outcome { Gives result (grown (bytes self.old) (limit self.old) length) (bytes self.old) (bytes self.new) }
         ensures limit { limit self.new ≡ limit self.old };
+
+    // a store's elements are bytes
+    ghost octets: { (s : Self) → Octets (bytes s) };
+
+    // a store never passes its limit
+    ghost held: { (s : Self) → length (bytes s) ≤ limit s };
 }

@@ -1,11 +1,9 @@
 // The split store: two byte lists of the caller's, the second following the first, their front in use.
-ghost use Rattle.std.specs.Prelude.{◌≡◌, ◌+◌, ◌++◌, length, take};
-ghost use Rattle.byte_lists.specs.Runs.{Octets};
-ghost use Rattle.store.specs.Split.{joined, split_bytes, split_limit, Across};
+ghost use Rattle.std.specs.Prelude.{◌≡◌, ℕ, ◌+◌, ◌<◌, ◌++◌, length, take, slice_index};
 
 use crate::Store;
 use crate::runs::{clear_run, copy_run, replace_run};
-use byte_lists::{length_of, within};
+use byte_lists::within;
 use fault::{Fault, Layer, Reason};
 
 #[derive(Drop)]
@@ -13,6 +11,8 @@ pub struct SplitStore<'a> {
     front: &'a mut [u8],
     back: &'a mut [u8],
     used: usize,
+    ghost front_octets: { (i : ℕ) → slice_index front.now i < 256 },
+    ghost back_octets: { (i : ℕ) → slice_index back.now i < 256 },
 }
 
 // How a run of n bytes at `at` lies across a seam: so many of its bytes before the seam, from `low` on, the rest from `high` on behind it.
@@ -23,17 +23,23 @@ struct Cut {
     high: usize,
 }
 
-fn cut_at(at: usize, n: usize, seam: usize) -> Cut
-    ensures lies { Across at n seam result.before result.low result.high }
-{
-    Cut {
-        before: n.min(seam.saturating_sub(at)),
-        low: at.min(seam),
-        high: at.saturating_sub(seam),
+impl Cut {
+    ghost use Rattle.store.specs.Split.{Across};
+
+    fn across(at: usize, n: usize, seam: usize) -> Cut
+        ensures lies { Across at n seam result.before result.low result.high }
+    {
+        Cut {
+            before: n.min(seam.saturating_sub(at)),
+            low: at.min(seam),
+            high: at.saturating_sub(seam),
+        }
     }
 }
 
 impl<'a> SplitStore<'a> {
+    ghost use Rattle.store.specs.Split.{split_bytes, split_limit};
+
     // The first `used` bytes of both lists, held at their length together, which is the limit.
     pub fn new(front: &'a mut [u8], back: &'a mut [u8], used: usize) -> SplitStore<'a>
         ensures bytes { split_bytes result ≡ take used (front.old ++ back.old) }
@@ -42,24 +48,30 @@ impl<'a> SplitStore<'a> {
         SplitStore { front, back, used }
     }
 
+    // Both lengths together, which fit since no list reaches 2^63 bytes.
     fn most(&self) -> usize
         ensures value { result ≡ split_limit self.now }
     {
-        octets_across(self.front, self.back)
+        self.front.len() + self.back.len()
     }
 
     fn in_use(&self) -> usize
         ensures value { result ≡ length (split_bytes self.now) }
-        ensures octets { Octets (split_bytes self.now) }
     {
-        self.used.min(octets_across(self.front, self.back))
+        self.used.min(self.most())
     }
 }
 
 impl Store for SplitStore<'_> {
+    ghost use Rattle.store.specs.Split.{split_bytes, split_limit, split_octets, split_held};
+
     ghost bytes = { split_bytes };
 
     ghost limit = { split_limit };
+
+    ghost octets = { split_octets };
+
+    ghost held = { split_held };
 
     fn length(&self) -> u64 {
         self.in_use() as u64
@@ -74,7 +86,7 @@ impl Store for SplitStore<'_> {
             return Err(Fault::new(Reason::PastStore, Layer::Store, first));
         }
         let n = out.len();
-        let Cut { before, low, high } = cut_at(first as usize, n, self.front.len());
+        let Cut { before, low, high } = Cut::across(first as usize, n, self.front.len());
         copy_run(self.front, low, &mut out[0..before]);
         copy_run(self.back, high, &mut out[before..n]);
         Ok(())
@@ -84,7 +96,7 @@ impl Store for SplitStore<'_> {
         if !within(first, new.len() as u64, self.in_use() as u64) {
             return Err(Fault::new(Reason::PastStore, Layer::Store, first));
         }
-        let Cut { before, low, high } = cut_at(first as usize, new.len(), self.front.len());
+        let Cut { before, low, high } = Cut::across(first as usize, new.len(), self.front.len());
         replace_run(self.front, low, &new[0..before]);
         replace_run(self.back, high, &new[before..new.len()]);
         Ok(())
@@ -96,20 +108,10 @@ impl Store for SplitStore<'_> {
             return Err(Fault::new(Reason::Growth, Layer::Store, length));
         }
         let n = length as usize - used;
-        let Cut { before, low, high } = cut_at(used, n, self.front.len());
+        let Cut { before, low, high } = Cut::across(used, n, self.front.len());
         clear_run(self.front, low, before);
         clear_run(self.back, high, n - before);
         self.used = length as usize;
         Ok(())
     }
-}
-
-// Both lengths together, which fit since no list reaches 2^63 bytes.
-fn octets_across(front: &[u8], back: &[u8]) -> usize
-    ensures value { result ≡ length (front.now ++ back.now) }
-    ensures octets { Octets (front.now ++ back.now) }
-{
-    length_of(front);
-    length_of(back);
-    front.len() + back.len()
 }

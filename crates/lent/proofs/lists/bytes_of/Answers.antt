@@ -21,4 +21,4 @@ returns g c =
     let whole : n ≡ length bs = c.as_mut_slice.ensures.len ∙ c.in_ok-all.ensures.len ∙ c.length.ensures.value in
     let read : out ≡ bs = left_after c.read.result (load bs 0 n) buffer out c.read.ensures.outcome ∙ ap (after buffer) (loads bs 0 n bs (omega arith) (all_run bs n whole)) in
     let items = refilled out c.in_ok-all.all.items c.in_ok-all.all.len (ap length read ∙ sym whole ∙ c.as_mut_slice.ensures.len) ∙ read in
-    record { items = items; held = subst (λ l. length l ≤ g.S.Store.limit c.args.s.now) (sym items) c.length.ensures.held }
+    record { items = items; held = subst (λ l. length l ≤ g.S.Store.limit c.args.s.now) (sym items) (g.met.S.Store.held c.args.s.now) }

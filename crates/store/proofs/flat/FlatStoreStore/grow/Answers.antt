@@ -2,6 +2,7 @@ use Rattle.std.proofs.Common.{◌≡◌, ◌-◌, ◌≤◌, length, take, sym, 
 use Rattle.store.specs.Flat.{flat_bytes, flat_limit}
 use Rattle.byte_lists.specs.Runs.{grow, zeros}
 use Rattle.byte_lists.proofs.Runs.{take-length, take-put-zeros, length-put, length-zeros}
+use Rattle.byte_lists.proofs.Octets.{octets_after, octets_zeros}
 use Rattle.store.proofs.Outcomes.{grows}
 use Rattle.store.proofs.flat.FlatStoreStore.grow.Goals as goal
 
@@ -20,3 +21,6 @@ returns c =
           (ap (λ l. grow l n) (sym front) ∙ sym (take-put-zeros list used n low high) ∙ ap (take n) (sym c.clear_run.ensures.after));
       limit = ap length c.clear_run.ensures.after ∙ length-put list used (zeros (n - used)) (omega (arith, length-zeros (n - used)));
     }
+
+pub invariant_of-self : goal.invariant_of-self
+invariant_of-self c = let s = c.args.self.now in record { octets = octets_after s.list.now _ _ _ c.clear_run.ensures.after s.octets (octets_zeros _) }

@@ -1,6 +1,6 @@
 use Rattle.std.proofs.Common.{min, ap, ◌∙◌}
 use Rattle.store.proofs.Seams.{across}
-use Rattle.store.proofs.split.cut_at.Goals as goal
+use Rattle.store.proofs.split.Cut.across.Goals as goal
 
 pub returns : goal.returns
 returns c = record {

@@ -1,16 +1,27 @@
 -- The readings of the disks are sound. Assumes nothing.
-use Rattle.std.proofs.Common.{◌≡◌, ℕ, ◌^◌, ◌≤◌, min, cond, ltb, List, length, IfOk, Ok, Err, Result, arith}
+use Rattle.std.proofs.Common.{◌≡◌, ℕ, ◌*◌, ◌^◌, ◌≤◌, min, cond, ltb, List, length, drop, IfOk, Ok, Err, Result, arith, length-take}
 use Rattle.std.proofs.lemmas.Bool.{cond-false, cond_both, le-ltb}
 use Rattle.fault.specs.declared.Fault.{Fault}
 use Rattle.fault.specs.declared.Layer.TheVariants.{Disk}
 use Rattle.fault.specs.declared.Reason.TheVariants.{Spoiled}
 use Rattle.fault.specs.Faults.{fault}
-use Rattle.byte_lists.specs.Runs.{Octets, zeros}
-use Rattle.byte_lists.proofs.Runs.{length-zeros}
-use Rattle.byte_lists.proofs.Octets.{octets_zeros}
+use Rattle.byte_lists.specs.Runs.{run, zeros, Octets}
+use Rattle.byte_lists.proofs.Runs.{length-grow, length-zeros}
+use Rattle.byte_lists.proofs.Octets.{octets_run, octets_grow, octets_zeros}
 use Rattle.disk.specs.Readings.{Sound, shown, past_end}
 use Rattle.disk.specs.Disks.{zeros_reading, raw_reading, rescued_reading, sector, sectors_of, spoilt}
-use Rattle.disk.proofs.Sectors.{length-sector, octets_sector}
+
+short : (bs : List ℕ) (at n : ℕ) → length (run bs at n) ≤ n
+unfolding run
+short bs at n = omega (arith, length-take n (drop at bs))
+
+pub length-sector : (bs : List ℕ) (s : ℕ) → length (sector bs s) ≡ 512
+unfolding sector
+length-sector bs s = length-grow (run bs (s * 512) 512) 512 (short bs (s * 512) 512)
+
+pub octets_sector : (bs : List ℕ) (s : ℕ) → Octets bs → Octets (sector bs s)
+unfolding sector
+octets_sector bs s o = octets_grow (run bs (s * 512) 512) 512 (octets_run bs (s * 512) 512 o)
 
 abbrev pub Whole : Result (List ℕ) Fault → Type 0
 Whole r = IfOk r (λ bs. (length bs ≡ 512) × Octets bs)

@@ -1,9 +1,0 @@
-use Rattle.std.proofs.Common.{◌^◌, ◌≤◌, subst}
-use Rattle.disk.proofs.Sounds.{sound_rescued}
-use Rattle.disk.proofs.rescued.RescuedDiskDisk.sectors.Goals as goal
-
-pub returns : goal.returns
-returns c = record {
-  value = c.sectors_in.ensures.value;
-  sound = sound_rescued c.args.self.now.list.now c.args.self.now.spoiled.now (subst (λ n. n ≤ 2 ^ 55) c.sectors_in.ensures.value c.sectors_in.ensures.most) c.sectors_in.ensures.octets;
-}
