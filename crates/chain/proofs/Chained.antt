@@ -20,11 +20,6 @@ module _ {L : Type 0} (header : L → Result Numbers Fault) (bytes : L → List 
   chain : List L → Reading
   chain ls = chain_of header bytes ls base
 
-  -- no layer: the base
-  pub chain_none : (ls : List L) → length ls < 1 → chain_of header bytes ls base ≡ base
-  chain_none [] h = refl
-  chain_none (l ∷ ls) h = absurd (omega arith)
-
   -- a top layer, over what is left
   pub chain_top : (ls : List L) (x : L) → 1 ≤ length ls → x ≡ get_or ls 0 x → chain_of header bytes ls base ≡ mount_reading (header x) (bytes x) (chain_of header bytes (take (length ls - 1) (drop 1 ls)) base)
   chain_top [] x h e = absurd (omega arith)
@@ -43,9 +38,6 @@ module _ {L : Type 0} (header : L → Result Numbers Fault) (bytes : L → List 
     seen : chain_of header bytes ls base ≡ sector_by_sector (header x) (bytes x) below
     seen = top ∙ mount_reading-by_sector (header x) (bytes x) below
 
-    pub top_sectors : (chain_of header bytes ls base).sectors ≡ mount_sectors (header x)
-    top_sectors = ap (λ r. r.sectors) seen
-
     pub top_past : (s : ℕ) → mount_sectors (header x) ≤ s → (chain_of header bytes ls base).answer s ≡ past_end s
     top_past s h = ap (λ r. r.answer s) seen ∙ cond-false (ltb s (mount_sectors (header x))) _ _ (le-ltb s (mount_sectors (header x)) h)
 
@@ -61,10 +53,6 @@ module _ {L : Type 0} (header : L → Result Numbers Fault) (bytes : L → List 
       shown =
           ap (λ r. r.answer s) seen ∙ cond-true (ltb s (mount_sectors (header x))) _ _ (lt-ltb s (mount_sectors (header x)) lt)
           ∙ ap (λ h. and_then h λ m. shows m (bytes x) (chain_of header bytes rest base) m.l1 s) is
-
-      pub top_entry_bad : (f : Fault) → Err f ≡ guest_entry n (bytes x) n.l1 (s / per_cluster n) → (chain_of header bytes ls base).answer s ≡ Err f
-      unfolding below
-      top_entry_bad f e = shown ∙ ap (λ r. and_then r λ y. entry_shows n (bytes x) below y s) (sym e)
 
       pub top_entry : (e : Entry) → Ok e ≡ guest_entry n (bytes x) n.l1 (s / per_cluster n) → (chain_of header bytes ls base).answer s ≡ entry_shows n (bytes x) (chain_of header bytes rest base) e s
       unfolding below

@@ -54,11 +54,6 @@ pub record_passed : (t : Bool) (place : ℕ) (u : Unit {0}) → Ok u ≡ record_
 record_passed true place u e = refl
 record_passed false place u e = let z : ◌≡◌ {A = ℕ} 0 1 = cc in absurd (omega arith)
 
--- the whole record was read, and its judgement is the call's answer
-pub rest_told : (n : Numbers) (bs : List ℕ) (place : ℕ) (h : Head) (room : List ℕ) (r : Result (Unit {0}) Fault) → load bs place (size h) ≡ Ok room → r ≡ record_good (rest_good n h room) place → Tells r (rest_in n bs place h) room
-rest_told n bs place h room (Ok u) e f = ap (λ x. and_then x (λ b. and_then (record_good (rest_good n h b) place) λ _. Ok b)) e ∙ ap (λ x. and_then x (λ _. Ok room)) (sym f)
-rest_told n bs place h room (Err d) e f = ap (λ x. and_then x (λ b. and_then (record_good (rest_good n h b) place) λ _. Ok b)) e ∙ ap (λ x. and_then x (λ _. Ok room)) (sym f)
-
 -- a record's judgement, from that of its first bytes and of the rest
 module _ (n : Numbers) (bs : List ℕ) (at place : ℕ) (is : place ≡ record_place n at) where
   first : head_in n bs place at ≡ head_in n bs (record_place n at) at
