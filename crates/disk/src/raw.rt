@@ -40,12 +40,11 @@ pub(crate) fn copy_sector(list: &[u8], sector: u64, out: &mut [u8; 512])
 }
 
 impl Disk for RawDisk<'_> {
-    ghost use Rattle.byte_lists.proofs.Octets.{octets_of};
-    ghost use Rattle.disk.specs.Sounds.{sound_raw};
+    ghost use Rattle.disk.specs.Sounds.{raw_sound};
 
     ghost reading = { λ d. raw_reading d.list.now };
 
-    ghost sound = { λ d. sound_raw d.list.now d.most (octets_of d.list.now d.octets) };
+    ghost sound = { raw_sound };
 
     fn sectors(&self) -> u64 {
         sectors_in(self.list)

@@ -30,12 +30,11 @@ fn is_spoilt(spoiled: &[u64], sector: u64) -> bool
 }
 
 impl Disk for RescuedDisk<'_> {
-    ghost use Rattle.byte_lists.proofs.Octets.{octets_of};
-    ghost use Rattle.disk.specs.Sounds.{sound_rescued};
+    ghost use Rattle.disk.specs.Sounds.{rescued_sound};
 
     ghost reading = { λ d. rescued_reading d.list.now d.spoiled.now };
 
-    ghost sound = { λ d. sound_rescued d.list.now d.spoiled.now d.most (octets_of d.list.now d.octets) };
+    ghost sound = { rescued_sound };
 
     fn sectors(&self) -> u64 {
         sectors_in(self.list)
