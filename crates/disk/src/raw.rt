@@ -1,5 +1,6 @@
 // The raw disk: a byte list, a part sector at its end filled with zeros.
-ghost use Rattle.std.specs.Prelude.{◌≡◌, ℕ, ◌*◌, ◌^◌, ◌<◌, ◌≤◌, length, slice_index};
+ghost use Rattle.std.specs.Prelude.{◌≡◌, ◌*◌, ◌^◌, ◌≤◌, length};
+ghost use Rattle.byte_lists.specs.Runs.{EachOctet};
 ghost use Rattle.disk.specs.Disks.{raw_reading, sectors_of, sector as sector_of};
 
 use crate::Disk;
@@ -8,7 +9,7 @@ use fault::{Fault, Layer, Reason};
 #[derive(Clone, Copy)]
 pub struct RawDisk<'a> {
     list: &'a [u8],
-    ghost octets: { (i : ℕ) → slice_index list.now i < 256 },
+    ghost octets: { EachOctet list.now },
     ghost most: { sectors_of (length list.now) ≤ 2 ^ 55 },
 }
 

@@ -1,5 +1,6 @@
 // The rescued disk: a raw disk some of whose sectors could not be read when it was copied.
-ghost use Rattle.std.specs.Prelude.{◌≡◌, ℕ, ◌^◌, ◌<◌, ◌≤◌, Bool, length, slice_index};
+ghost use Rattle.std.specs.Prelude.{◌≡◌, ◌^◌, ◌≤◌, Bool, length};
+ghost use Rattle.byte_lists.specs.Runs.{EachOctet};
 ghost use Rattle.disk.specs.Disks.{rescued_reading, sectors_of, spoilt};
 
 use crate::Disk;
@@ -10,7 +11,7 @@ use fault::{Fault, Layer, Reason};
 pub struct RescuedDisk<'a> {
     list: &'a [u8],
     spoiled: &'a [u64],
-    ghost octets: { (i : ℕ) → slice_index list.now i < 256 },
+    ghost octets: { EachOctet list.now },
     ghost most: { sectors_of (length list.now) ≤ 2 ^ 55 },
 }
 
