@@ -1,6 +1,6 @@
 -- Every byte stays below 256. Assumes nothing.
-use Rattle.std.proofs.Common.{◌≡◌, ℕ, zero, suc, ◌+◌, ◌-◌, ◌<◌, List, [], ◌∷◌, ◌++◌, length, get_or, take, drop, slice_index, sym, subst, arith}
-use Rattle.byte_lists.specs.Runs.{run, put, zeros, grow, Octets}
+use Rattle.std.proofs.Common.{◌≡◌, ℕ, zero, suc, ◌+◌, ◌-◌, ◌<◌, List, [], ◌∷◌, ◌++◌, length, get_or, take, drop, sym, subst, arith}
+use Rattle.byte_lists.specs.Runs.{run, put, zeros, grow, Octets, EachOctet}
 use Rattle.byte_lists.specs.Numbers.{be_bytes, spell}
 
 -- an element is below 256, and so is what stands past the end
@@ -61,12 +61,12 @@ unfolding spell
 octets_spell bs at w x o = octets_put bs at (be_bytes w x) o (octets_be_bytes w x)
 
 -- a list whose reads are all below 256
-pub octets_of : (bs : List ℕ) → ((i : ℕ) → slice_index bs i < 256) → Octets bs
+pub octets_of : (bs : List ℕ) → EachOctet bs → Octets bs
 octets_of bs h = octets_from bs (λ i _. h i)
 
-pub octets_in : (bs : List ℕ) → Octets bs → (i : ℕ) → slice_index bs i < 256
+pub octets_in : (bs : List ℕ) → Octets bs → EachOctet bs
 octets_in bs o i = octet_at bs i o
 
 -- what a list reads after a replacement
-pub octets_after : (bs : List ℕ) (at : ℕ) (new after : List ℕ) → after ≡ put bs at new → ((i : ℕ) → slice_index bs i < 256) → Octets new → (i : ℕ) → slice_index after i < 256
+pub octets_after : (bs : List ℕ) (at : ℕ) (new after : List ℕ) → after ≡ put bs at new → EachOctet bs → Octets new → EachOctet after
 octets_after bs at new after is h o = octets_in after (subst Octets (sym is) (octets_put bs at new (octets_of bs h) o))

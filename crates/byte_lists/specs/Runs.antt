@@ -4,7 +4,8 @@
 --   zeros     n zero bytes
 --   grow      a list grown by zeros to a length; a longer list stays
 --   Octets    every element is a byte, below 256
-use Rattle.std.specs.Prelude.{ℕ, ◌+◌, ◌-◌, ◌<◌, List, [], ◌∷◌, ◌++◌, length, take, drop, replicate}
+--   EachOctet   the same of each place, as a type keeps it of its list
+use Rattle.std.specs.Prelude.{ℕ, ◌+◌, ◌-◌, ◌<◌, List, [], ◌∷◌, ◌++◌, length, take, drop, replicate, slice_index}
 
 unfoldable pub run : List ℕ → ℕ → ℕ → List ℕ
 run bs at n = take n (drop at bs)
@@ -21,3 +22,6 @@ grow bs n = bs ++ zeros (n - length bs)
 unfoldable pub Octets : List ℕ → Type 0
 Octets [] = Unit {0}
 Octets (b ∷ bs) = (b < 256) × Octets bs
+
+abbrev pub EachOctet : List ℕ → Type 0
+EachOctet bs = (i : ℕ) → slice_index bs i < 256

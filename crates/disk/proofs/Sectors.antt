@@ -1,10 +1,9 @@
 -- A sector of a byte list, a part sector filled with zeros. Assumes nothing.
-use Rattle.std.proofs.Common.{◌≡◌, ℕ, ◌-◌, ◌*◌, ◌≤◌, min, List, ◌++◌, length, take, drop, sym, ap, ◌∙◌, inl, inr, arith, length-drop, length-take}
+use Rattle.std.proofs.Common.{◌≡◌, ℕ, ◌-◌, ◌*◌, ◌≤◌, min, List, ◌++◌, length, take, drop, sym, ap, ◌∙◌, inl, inr, arith, length-drop}
 use Rattle.std.proofs.lemmas.List.{take_all}
 use Rattle.std.proofs.lemmas.Bool.{cases_lt}
-use Rattle.byte_lists.specs.Runs.{run, grow, zeros, Octets}
-use Rattle.byte_lists.proofs.Runs.{length_run, length-grow}
-use Rattle.byte_lists.proofs.Octets.{octets_run, octets_grow}
+use Rattle.byte_lists.specs.Runs.{run, grow, zeros}
+use Rattle.byte_lists.proofs.Runs.{length_run}
 use Rattle.disk.specs.Disks.{sector}
 
 -- a run that passes the end is what there is

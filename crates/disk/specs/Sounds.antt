@@ -7,8 +7,11 @@ use Rattle.fault.specs.declared.Reason.TheVariants.{Spoiled}
 use Rattle.fault.specs.Faults.{fault}
 use Rattle.byte_lists.specs.Runs.{run, zeros, Octets}
 use Rattle.byte_lists.proofs.Runs.{length-grow, length-zeros}
-use Rattle.byte_lists.proofs.Octets.{octets_run, octets_grow, octets_zeros}
+use Rattle.byte_lists.proofs.Octets.{octets_of, octets_run, octets_grow, octets_zeros}
 use Rattle.disk.specs.Readings.{Sound, shown, past_end}
+use Rattle.disk.specs.declared.raw.RawDisk.{RawDisk}
+use Rattle.disk.specs.declared.rescued.RescuedDisk.{RescuedDisk}
+use Rattle.disk.specs.declared.zeros.ZerosDisk.{ZerosDisk}
 use Rattle.disk.specs.Disks.{zeros_reading, raw_reading, rescued_reading, sector, sectors_of, spoilt}
 
 short : (bs : List ℕ) (at n : ℕ) → length (run bs at n) ≤ n
@@ -44,3 +47,13 @@ pub sound_rescued : (bs spoiled : List ℕ) → sectors_of (length bs) ≤ 2 ^ 5
 sound_rescued bs spoiled most o =
     sound_shown (sectors_of (length bs)) (λ s. cond (spoilt spoiled s) (Err (fault Spoiled Disk s)) (Ok (sector bs s))) most
     (λ s. cond_both (spoilt spoiled s) (Err (fault Spoiled Disk s)) (Ok (sector bs s)) Whole (λ _. tt) (λ _. (length-sector bs s, octets_sector bs s o)))
+
+-- what each disk owes
+pub zeros_sound : (d : ZerosDisk) → Sound (zeros_reading d.count)
+zeros_sound d = sound_zeros d.count
+
+pub raw_sound : (d : RawDisk) → Sound (raw_reading d.list.now)
+raw_sound d = sound_raw d.list.now d.most (octets_of d.list.now d.octets)
+
+pub rescued_sound : (d : RescuedDisk) → Sound (rescued_reading d.list.now d.spoiled.now)
+rescued_sound d = sound_rescued d.list.now d.spoiled.now d.most (octets_of d.list.now d.octets)

@@ -1,5 +1,6 @@
 // The raw disk: a byte list, a part sector at its end filled with zeros.
-ghost use Rattle.std.specs.Prelude.{◌≡◌, ℕ, ◌*◌, ◌^◌, ◌<◌, ◌≤◌, length, slice_index};
+ghost use Rattle.std.specs.Prelude.{◌≡◌, ◌*◌, ◌^◌, ◌≤◌, length};
+ghost use Rattle.byte_lists.specs.Runs.{EachOctet};
 ghost use Rattle.disk.specs.Disks.{raw_reading, sectors_of, sector as sector_of};
 
 use crate::Disk;
@@ -8,7 +9,7 @@ use fault::{Fault, Layer, Reason};
 #[derive(Clone, Copy)]
 pub struct RawDisk<'a> {
     list: &'a [u8],
-    ghost octets: { (i : ℕ) → slice_index list.now i < 256 },
+    ghost octets: { EachOctet list.now },
     ghost most: { sectors_of (length list.now) ≤ 2 ^ 55 },
 }
 
@@ -40,12 +41,11 @@ pub(crate) fn copy_sector(list: &[u8], sector: u64, out: &mut [u8; 512])
 }
 
 impl Disk for RawDisk<'_> {
-    ghost use Rattle.byte_lists.proofs.Octets.{octets_of};
-    ghost use Rattle.disk.specs.Sounds.{sound_raw};
+    ghost use Rattle.disk.specs.Sounds.{raw_sound};
 
     ghost reading = { λ d. raw_reading d.list.now };
 
-    ghost sound = { λ d. sound_raw d.list.now d.most (octets_of d.list.now d.octets) };
+    ghost sound = { raw_sound };
 
     fn sectors(&self) -> u64 {
         sectors_in(self.list)

@@ -1,5 +1,6 @@
 // The rescued disk: a raw disk some of whose sectors could not be read when it was copied.
-ghost use Rattle.std.specs.Prelude.{◌≡◌, ℕ, ◌^◌, ◌<◌, ◌≤◌, Bool, length, slice_index};
+ghost use Rattle.std.specs.Prelude.{◌≡◌, ◌^◌, ◌≤◌, Bool, length};
+ghost use Rattle.byte_lists.specs.Runs.{EachOctet};
 ghost use Rattle.disk.specs.Disks.{rescued_reading, sectors_of, spoilt};
 
 use crate::Disk;
@@ -10,7 +11,7 @@ use fault::{Fault, Layer, Reason};
 pub struct RescuedDisk<'a> {
     list: &'a [u8],
     spoiled: &'a [u64],
-    ghost octets: { (i : ℕ) → slice_index list.now i < 256 },
+    ghost octets: { EachOctet list.now },
     ghost most: { sectors_of (length list.now) ≤ 2 ^ 55 },
 }
 
@@ -30,12 +31,11 @@ fn is_spoilt(spoiled: &[u64], sector: u64) -> bool
 }
 
 impl Disk for RescuedDisk<'_> {
-    ghost use Rattle.byte_lists.proofs.Octets.{octets_of};
-    ghost use Rattle.disk.specs.Sounds.{sound_rescued};
+    ghost use Rattle.disk.specs.Sounds.{rescued_sound};
 
     ghost reading = { λ d. rescued_reading d.list.now d.spoiled.now };
 
-    ghost sound = { λ d. sound_rescued d.list.now d.spoiled.now d.most (octets_of d.list.now d.octets) };
+    ghost sound = { rescued_sound };
 
     fn sectors(&self) -> u64 {
         sectors_in(self.list)

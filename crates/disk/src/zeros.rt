@@ -20,11 +20,11 @@ impl ZerosDisk {
 }
 
 impl Disk for ZerosDisk {
-    ghost use Rattle.disk.specs.Sounds.{sound_zeros};
+    ghost use Rattle.disk.specs.Sounds.{zeros_sound};
 
     ghost reading = { λ d. zeros_reading d.count };
 
-    ghost sound = { λ d. sound_zeros d.count };
+    ghost sound = { zeros_sound };
 
     fn sectors(&self) -> u64 {
         self.count.min(1 << 55)

@@ -4,12 +4,11 @@
 --   base_reading   the sectors of a disk
 use Rattle.std.specs.Prelude.{ℕ, ◌≤◌, List, length}
 use Rattle.byte_lists.specs.Runs.{Octets}
-use Rattle.byte_lists.proofs.Octets.{octets_of}
 use Rattle.store.specs.Flat.{flat_bytes, flat_limit, flat_octets, flat_held}
 use Rattle.store.specs.Split.{split_bytes, split_limit, split_octets, split_held}
 use Rattle.disk.specs.Readings.{Reading, Sound}
 use Rattle.disk.specs.Disks.{zeros_reading, raw_reading, rescued_reading}
-use Rattle.disk.specs.Sounds.{sound_zeros, sound_raw, sound_rescued}
+use Rattle.disk.specs.Sounds.{zeros_sound, raw_sound, rescued_sound}
 use Rattle.lent.specs.declared.any_store.AnyStore.{AnyStore}
 use Rattle.lent.specs.declared.any_store.AnyStore.TheVariants.{Flat, Split}
 use Rattle.lent.specs.declared.base_disk.BaseDisk.{BaseDisk}
@@ -38,6 +37,6 @@ any_held (Flat s) = flat_held s
 any_held (Split s) = split_held s
 
 pub base_sound : (d : BaseDisk) → Sound (base_reading d)
-base_sound (Zeros d) = sound_zeros d.count
-base_sound (Raw d) = sound_raw d.list.now d.most (octets_of d.list.now d.octets)
-base_sound (Rescued d) = sound_rescued d.list.now d.spoiled.now d.most (octets_of d.list.now d.octets)
+base_sound (Zeros d) = zeros_sound d
+base_sound (Raw d) = raw_sound d
+base_sound (Rescued d) = rescued_sound d

@@ -1,7 +1,8 @@
 // A store that owns its bytes, for a layer of a chain of images.
 #![tactic(auto)]
 
-ghost use Rattle.std.specs.Prelude.{◌≡◌, ℕ, ◌<◌, slice_index};
+ghost use Rattle.std.specs.Prelude.{◌≡◌};
+ghost use Rattle.byte_lists.specs.Runs.{EachOctet};
 
 use fault::{Fault, Layer, Reason};
 use store::{Store, read_from, replace_in};
@@ -10,7 +11,7 @@ use store::{Store, read_from, replace_in};
 #[derive(Drop)]
 pub struct MemoryStore {
     content: Vec<u8>,
-    ghost octets: { (i : ℕ) → slice_index content.items i < 256 },
+    ghost octets: { EachOctet content.items },
 }
 
 impl MemoryStore {

@@ -56,4 +56,4 @@ left_after (Err e) outcome before after' g = g.1 ∙ sym (ap (after before) g.0)
 pub octets_left : (r : Result (Unit {0}) Fault) (bs : List ℕ) (first : ℕ) (new left : List ℕ) → Gives r (stored bs first new) bs left → Octets bs → Octets new → Octets left
 octets_left r bs first new left g o p =
     subst Octets (sym (left_after r (stored bs first new) bs left g))
-        (cond_both (leb (first + length new) (length bs)) (Ok (put bs first new)) (Err (fault PastStore Store first)) (λ x. Octets (after bs x)) (λ _. octets_put bs first new o p) (λ _. o))
+    (cond_both (leb (first + length new) (length bs)) (Ok (put bs first new)) (Err (fault PastStore Store first)) (λ x. Octets (after bs x)) (λ _. octets_put bs first new o p) (λ _. o))

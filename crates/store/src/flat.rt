@@ -1,5 +1,6 @@
 // The flat store: one byte list of the caller's, its front in use.
-ghost use Rattle.std.specs.Prelude.{◌≡◌, ℕ, ◌<◌, length, take, slice_index};
+ghost use Rattle.std.specs.Prelude.{◌≡◌, length, take};
+ghost use Rattle.byte_lists.specs.Runs.{EachOctet};
 
 use crate::Store;
 use crate::runs::{clear_run, read_from, replace_in};
@@ -9,7 +10,7 @@ use fault::{Fault, Layer, Reason};
 pub struct FlatStore<'a> {
     list: &'a mut [u8],
     used: usize,
-    ghost octets: { (i : ℕ) → slice_index list.now i < 256 },
+    ghost octets: { EachOctet list.now },
 }
 
 impl<'a> FlatStore<'a> {

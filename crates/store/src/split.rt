@@ -1,5 +1,6 @@
 // The split store: two byte lists of the caller's, the second following the first, their front in use.
-ghost use Rattle.std.specs.Prelude.{◌≡◌, ℕ, ◌+◌, ◌<◌, ◌++◌, length, take, slice_index};
+ghost use Rattle.std.specs.Prelude.{◌≡◌, ◌+◌, ◌++◌, length, take};
+ghost use Rattle.byte_lists.specs.Runs.{EachOctet};
 
 use crate::Store;
 use crate::runs::{clear_run, copy_run, replace_run};
@@ -11,8 +12,8 @@ pub struct SplitStore<'a> {
     front: &'a mut [u8],
     back: &'a mut [u8],
     used: usize,
-    ghost front_octets: { (i : ℕ) → slice_index front.now i < 256 },
-    ghost back_octets: { (i : ℕ) → slice_index back.now i < 256 },
+    ghost front_octets: { EachOctet front.now },
+    ghost back_octets: { EachOctet back.now },
 }
 
 // How a run of n bytes at `at` lies across a seam: so many of its bytes before the seam, from `low` on, the rest from `high` on behind it.

@@ -1,8 +1,8 @@
-use Rattle.std.proofs.Common.{◌≡◌, ℕ, ◌<◌, List, ◌++◌, length, take, drop, slice_index, Result, sym, ap, ◌∙◌, subst, arith}
+use Rattle.std.proofs.Common.{◌≡◌, ℕ, List, ◌++◌, length, take, drop, Result, sym, ap, ◌∙◌, subst, arith}
 use Rattle.std.proofs.lemmas.List.{take_at}
 use Rattle.fault.specs.declared.Fault.{Fault}
 use Rattle.fault.specs.Outcomes.{Gives}
-use Rattle.byte_lists.specs.Runs.{Octets}
+use Rattle.byte_lists.specs.Runs.{Octets, EachOctet}
 use Rattle.byte_lists.proofs.Octets.{octets_of, octets_in}
 use Rattle.store.specs.Stores.{stored}
 use Rattle.store.proofs.Outcomes.{octets_left}
@@ -10,7 +10,7 @@ use Rattle.memory.specs.Memory.{memory_bytes, memory_octets}
 use Rattle.memory.proofs.MemoryStoreStore.replace.Goals as goal
 
 -- what the vector holds after its list was written
-octets_back : (n first : ℕ) (bs new out : List ℕ) (r : Result (Unit {0}) Fault) → length out ≡ n → Gives r (stored bs first new) bs out → Octets bs → Octets new → (i : ℕ) → slice_index (take n (out ++ drop (length out) bs)) i < 256
+octets_back : (n first : ℕ) (bs new out : List ℕ) (r : Result (Unit {0}) Fault) → length out ≡ n → Gives r (stored bs first new) bs out → Octets bs → Octets new → EachOctet (take n (out ++ drop (length out) bs))
 octets_back n first bs new out r long g o p = octets_in (take n (out ++ drop (length out) bs)) (subst Octets (sym (take_at out (drop (length out) bs) n long)) (octets_left r bs first new out g o p))
 
 pub invariant_of-self : goal.invariant_of-self
