@@ -35,8 +35,7 @@ fn bits_of(heap: Global, bits: Option<&str>) -> Result<u32, Stop> {
     let Some(text) = bits else {
         return Ok(16);
     };
-    text.parse()
-        .map_err(|_| message(heap, "--cluster-bits takes a number, not", text))
+    text.parse().map_err(|_| message(heap, "--cluster-bits takes a number, not", text))
 }
 
 // The factor of a size's last letter, and what stands before it.

@@ -11,7 +11,10 @@ fn use_store<S: Store>(rt: &HostRuntime, s: &mut S) -> anyhow::Result<()> {
     let limit = s.limit();
     println!(rt; "  {length} bytes in use, limit {limit}")?;
     println!(rt; "  grow to 12: {}", Verdict(s.grow(12)))?;
-    println!(rt; "  replace 4 bytes from 6: {}", Verdict(s.replace(6, b"snap")))?;
+    println!(rt;
+        "  replace 4 bytes from 6: {}",
+        Verdict(s.replace(6, b"snap"))
+    )?;
     let mut run = [0u8; 5];
     println!(rt; "  read 5 bytes from 5: {}", Verdict(s.read(5, &mut run)))?;
     println!(rt; "  they are {run:?}")?;

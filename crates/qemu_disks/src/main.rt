@@ -153,17 +153,16 @@ fn hold(rt: &HostRuntime, name: &str, id: &str, raw: &str) -> Result<(), Stop> {
     let heap = rt.alloc();
     let Opened { top, under, paths } = open(rt, name, PLAIN)?;
     let mut m = Mount::new(top, under.disk());
-    let n = m
-        .numbers()
-        .map_err(|f| refused(heap, paths.as_slice(), f))?;
+    let n = m.numbers().map_err(|f| refused(heap, paths.as_slice(), f))?;
     if id == "-" {
         examine(rt, name, &m.store, n)?;
         judge_counts(rt, &mut m, n)?;
     }
     let expected = fs::read(rt, raw)?;
     let mut words = vec![in heap; 0u32; guest_clusters(n) as usize]?;
-    let equal = compare(&m, id_of(id), words.as_mut_slice(), expected.as_slice())
-        .map_err(|f| refused(heap, paths.as_slice(), f))?;
+    let equal = compare(&m, id_of(id), words.as_mut_slice(), expected.as_slice()).map_err(
+        |f| refused(heap, paths.as_slice(), f),
+    )?;
     if equal != sectors_of(n) || expected.len() as u64 != n.size {
         return Err(differs(heap, raw, equal, sectors_of(n)));
     }
