@@ -10,17 +10,20 @@ use format::{Numbers, judge};
 use std::fs;
 use store::{FlatStore, Store};
 
-// A number written to a byte of a header, or to four or eight: `AT/WIDTH=VALUE`.
+// An edit is AT/WIDTH=VALUE: a number written in 1, 4 or 8 bytes.
 fn patch(image: &mut [u8], edit: &str) -> anyhow::Result<()> {
-    let (Some((at, rest)), Some((_, value))) = (edit.split_once('/'), edit.split_once('=')) else {
+    let Some((place, value)) = edit.split_once('=') else {
+        return Err(anyhow!("an edit is AT/WIDTH=VALUE"));
+    };
+    let Some((at, width)) = place.split_once('/') else {
         return Err(anyhow!("an edit is AT/WIDTH=VALUE"));
     };
     let at = at.parse::<usize>()?;
     let value = value.parse::<u64>()?;
-    let done = match rest.split_once('=') {
-        Some(("8", _)) => put_number(image, at, value),
-        Some(("4", _)) => put_number(image, at, (value & 0xffff_ffff) as u32),
-        Some(("1", _)) if at < image.len() => {
+    let done = match width {
+        "8" => put_number(image, at, value),
+        "4" => put_number(image, at, (value & 0xffff_ffff) as u32),
+        "1" if at < image.len() => {
             image[at] = (value & 0xff) as u8;
             true
         }

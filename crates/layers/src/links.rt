@@ -35,13 +35,13 @@ fn unread(heap: Global, links: &[Link], path: &str, e: io::Error) -> Stop {
 // The path of the file below an image; a bad header leads to none, and is the answer of every read that comes to it.
 fn under_of(heap: Global, path: &str, front: &Front) -> Result<Option<String>, Stop> {
     let shown = front.shown();
-    match judge(shown, front.filled()) {
-        Err(_) => Ok(None),
-        Ok(n) => match backing_name(&n, shown) {
-            None => Ok(None),
-            Some(name) => Ok(Some(below(heap, path, name)?)),
-        },
-    }
+    let Ok(n) = judge(shown, front.filled()) else {
+        return Ok(None);
+    };
+    let Some(name) = backing_name(&n, shown) else {
+        return Ok(None);
+    };
+    Ok(Some(below(heap, path, name)?))
 }
 
 // One file more, and the path of the file below it. The top one is always taken for an image.

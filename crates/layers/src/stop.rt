@@ -1,4 +1,4 @@
-// Why a task stopped, in words for people that name the file.
+// Why a task stopped: words for people, with the file's name.
 ghost use Rattle.std.specs.Prelude.{◌≡◌};
 ghost use Rattle.layers.specs.Refusals.{said as said_of};
 

@@ -51,12 +51,11 @@ fn unit(text: &str) -> (&str, u64) {
 // Bytes, or with K, M, G or T.
 fn size_of(heap: Global, text: &str) -> Result<u64, Stop> {
     let (digits, factor) = unit(text);
-    if let Ok(n) = digits.parse::<u64>() {
-        if let Some(size) = n.checked_mul(factor) {
-            return Ok(size);
-        }
-    }
-    Err(message(
+    let size = digits
+        .parse::<u64>()
+        .ok()
+        .and_then(|n| n.checked_mul(factor));
+    size.ok_or_else(|| message(
         heap,
         "SIZE is a number of bytes, or with K, M, G or T, not",
         text,

@@ -15,8 +15,6 @@ use store::Store;
 
 pub(crate) const USAGE: &str = "qcow export [-l ID] [--backing FILE] [--spoiled LIST] FILE OUT";
 
-const NO_OPTIONS: &[&str] = &[];
-
 // A file is written in pieces of so many sectors.
 const PIECE: u64 = 4096;
 
@@ -44,7 +42,7 @@ fn fill<S: Store, B: Disk>(
 }
 
 fn is_zero(piece: &[u8]) -> bool {
-    // without an early answer, so that many bytes are taken at once
+    // `all` would end at the first other byte, and takes ten times as long on zeros
     piece.iter().fold(0, |all, b| all | *b) == 0
 }
 
@@ -90,7 +88,7 @@ fn write_new<S: Store, B: Disk>(work: &Work, m: &Mount<S, B>, file: &mut File) -
 
 pub(crate) fn run(rt: &HostRuntime, given: Vec<String>) -> Result<(), Stop> {
     let heap = rt.alloc();
-    let args = Arguments::new(heap, given, images::VALUED, NO_OPTIONS)?;
+    let args = Arguments::new(heap, given, images::VALUED, &[])?;
     let [path, out] = args.words.as_slice() else {
         return Err(message(heap, "usage:", USAGE));
     };

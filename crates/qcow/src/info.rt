@@ -8,8 +8,6 @@ use std::alloc::{AllocError, Global};
 
 pub(crate) const USAGE: &str = "qcow info FILE";
 
-const NO_OPTIONS: &[&str] = &[];
-
 fn backing(heap: Global, n: &Numbers, front: &[u8]) -> Result<String, AllocError> {
     match backing_name(n, front) {
         None => String::from_str(heap, "none"),
@@ -48,7 +46,7 @@ fn refuse(rt: &HostRuntime, path: &str, f: Fault) -> Result<(), Stop> {
 
 pub(crate) fn run(rt: &HostRuntime, given: Vec<String>) -> Result<(), Stop> {
     let heap = rt.alloc();
-    let args = Arguments::new(heap, given, NO_OPTIONS, NO_OPTIONS)?;
+    let args = Arguments::new(heap, given, &[], &[])?;
     let words = args.words.as_slice();
     let [path] = words else {
         return Err(message(heap, "usage:", USAGE));

@@ -12,8 +12,6 @@ use store::Store;
 
 pub(crate) const USAGE: &str = "qcow snapshot -l FILE";
 
-const NO_OPTIONS: &[&str] = &[];
-
 #[derive(Drop)]
 struct Row {
     id: String,
@@ -67,7 +65,7 @@ fn print(rt: &HostRuntime, rows: &[Row], size: u64) -> Result<(), Stop> {
 
 pub(crate) fn run(rt: &HostRuntime, given: Vec<String>) -> Result<(), Stop> {
     let heap = rt.alloc();
-    let args = Arguments::new(heap, given, NO_OPTIONS, &["-l"])?;
+    let args = Arguments::new(heap, given, &[], &["-l"])?;
     let paths = args.words.as_slice();
     let [path] = paths else {
         return Err(message(heap, "usage:", USAGE));
