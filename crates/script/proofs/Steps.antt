@@ -1,9 +1,7 @@
 -- How a call's answer and what it leaves make a step. Assumes nothing.
-use Rattle.std.proofs.Common.{◌≡◌, ℕ, ◌+◌, ◌<◌, ◌≤◌, leb, ◌⊎◌, List, length, take, IfOk, Some, Ok, Err, Option, Result, sym, ap, ◌∙◌, inl, inr, arith}
+use Rattle.std.proofs.Common.{◌≡◌, ℕ, ◌+◌, ◌<◌, ◌≤◌, leb, ◌⊎◌, List, length, take, Some, Ok, Err, Option, Result, sym, ap, ◌∙◌, inl, inr, arith}
 use Rattle.std.proofs.lemmas.List.{take_all}
 use Rattle.std.proofs.lemmas.Bool.{cond-false, lt-leb}
-use Rattle.std.proofs.lemmas.Result.{IfOk-weaker}
-use Rattle.std.specs.declared.alloc.AllocError.{AllocError}
 use Rattle.fault.specs.declared.Fault.{Fault}
 use Rattle.fault.specs.declared.Layer.TheVariants.{Store}
 use Rattle.fault.specs.declared.Reason.TheVariants.{PastStore}
@@ -39,15 +37,14 @@ load_past bs first m n (inr h) =
 
 -- a call that changes the bytes of a store that is there
 module _ (st : State) (a : Asked) (k : Kept) (outcome : Kept → Result (List ℕ) Fault) where
-  pub refill : step st a ≡ on_store st (λ k. changing st k (outcome k)) → Some k ≡ st.store → (r : Result (Unit {0}) Fault) (given : Result (List ℕ) Fault) (before bs : List ℕ) (limit : ℕ) → given ≡ outcome k → before ≡ k.content → limit ≡ k.limit → Gives r given before bs → (o : Result Outcome AllocError) → IfOk o (Left r bs limit) → IfOk o (Stepped st a)
-  refill asks here r given before bs limit is was same g o left =
+  pub refill : step st a ≡ on_store st (λ k. changing st k (outcome k)) → Some k ≡ st.store → (r : Result (Unit {0}) Fault) (given : Result (List ℕ) Fault) (before bs : List ℕ) (limit : ℕ) → given ≡ outcome k → before ≡ k.content → limit ≡ k.limit → Gives r given before bs → (o : Outcome) → Left r bs limit o → Stepped st a o
+  refill asks here r given before bs limit is was same g o l =
       let f : Kept → Told × State = λ k. changing st k (outcome k) in
       let there : step st a ≡ changing st k given = asks ∙ ap (λ s. on_kept st s f) (sym here) ∙ ap (changing st k) (sym is) in
       let to : Option Kept → State = λ s. record { store = s; mounted = st.mounted; disk = st.disk } in
-      IfOk-weaker o (Left r bs limit) (Stepped st a) (λ x l.
       let short : length bs ≤ k.limit = omega (arith, l.held) in
       let new : take k.limit bs ≡ after k.content given = take_all k.limit bs short ∙ left_after r given before bs g ∙ ap (λ b. after b given) was in
       record {
         answer = l.answer ∙ verdict_given r given before bs g ∙ sym (ap (λ p. p.0) there);
         state = l.state st ∙ ap (λ s. to (refilled bs s)) (sym here) ∙ ap (λ b. to (Some (record { content = b; limit = k.limit }))) new ∙ sym (ap (λ p. p.1) there);
-      }) left
+      }

@@ -9,6 +9,8 @@
 --   Left           an outcome is that of a call to a store: what the call answered, and the bytes after it
 --   Does           an outcome is what a function of states says: what it answers, and the state after what it changes
 --   Stepped        an outcome is that of a step: what it answers, and the state after what it changes
+--   Meets          an answer gives the outcome of a step, or the words of the mistake that the step is; it may be that there was no memory
+--   Found          an answer gives what is there, or the words that there is none; it may be that there was no memory
 --   Said           what a line gave and left is what its text says
 --   Spoken         what a line gave and left is what the text says; without memory nothing changed
 use Rattle.std.specs.Prelude.{◌≡◌, ℕ, ◌≤◌, List, length, take, Some, None, vec_items, string_bytes, Option, Result, String, MatchResult}
@@ -22,7 +24,7 @@ use Rattle.lent.specs.Lists.{space_limit, lists_bytes, lists_limit}
 use Rattle.lent.specs.declared.lists.Lists.{Lists}
 use Rattle.lent.specs.declared.lists.Space.{Space}
 use Rattle.text.specs.Calls.{Asked}
-use Rattle.answer.specs.Records.{Told, told}
+use Rattle.answer.specs.Records.{Told, told, mistaken}
 use Rattle.script.specs.States.{Kept, State, verdict, step, spoken}
 use Rattle.script.specs.declared.session.Base.{Base}
 use Rattle.script.specs.declared.session.Base.TheVariants as base
@@ -30,6 +32,8 @@ use Rattle.script.specs.declared.session.Session.{Session}
 use Rattle.script.specs.declared.outcome.Change.{Change}
 use Rattle.script.specs.declared.outcome.Change.TheVariants as change
 use Rattle.script.specs.declared.outcome.Outcome.{Outcome}
+use Rattle.script.specs.declared.outcome.Unmet.{Unmet}
+use Rattle.script.specs.declared.outcome.Unmet.TheVariants as unmet
 
 abbrev pub kept : Option Space → List ℕ → Option Kept
 kept None bs = None
@@ -71,6 +75,12 @@ pub record Does (f : State → Told × State) (o : Outcome) : Type 0 where
 pub record Stepped (s : State) (a : Asked) (o : Outcome) : Type 0 where
   pub answer : told o.answer ≡ (step s a).0
   pub state : changed o.change s ≡ (step s a).1
+
+abbrev pub Meets : State → Asked → Result Outcome Unmet → Type 0
+Meets s a r = MatchResult r (Stepped s a) λ e. (words : _) → e ≡ unmet.Mistake words → step s a ≡ (mistaken words.now, s)
+
+abbrev pub Found : {T X : Type 0} → Result T Unmet → (T → X) → Option X → List ℕ → Type 0
+Found r view there none = MatchResult r (λ x. Some (view x) ≡ there) λ e. (words : _) → e ≡ unmet.Mistake words → (None ≡ there) × (words.now ≡ none)
 
 pub record Said (s : State) (text : List ℕ) (o : Option (String Global)) (t : State) : Type 0 where
   pub line : option_map string_bytes o ≡ (spoken s text).0

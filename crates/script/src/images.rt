@@ -7,11 +7,10 @@ ghost use Rattle.lent.specs.Lent.{any_bytes, any_limit, base_reading};
 ghost use Rattle.lent.specs.Lists.{lists_bytes, lists_limit};
 ghost use Rattle.text.specs.Calls as ask;
 ghost use Rattle.script.specs.States.{held as held_of, shows};
-ghost use Rattle.script.specs.Sessions.{disk_reading, state, Stepped};
+ghost use Rattle.script.specs.Sessions.{disk_reading, state, Meets};
 
-use crate::outcome::{Change, Outcome, filled, left, mistake, unchanged};
+use crate::outcome::{Change, Outcome, Unmet, filled, left, unchanged};
 use crate::session::{Mounted, Session};
-use crate::stores::NO_STORE;
 use answer::Answer;
 use create::create;
 use disk::{Disk, ZerosDisk};
@@ -21,8 +20,6 @@ use image::Mount;
 use lent::{AnyStore, BLANK, BaseDisk, Lists};
 use std::alloc::{AllocError, Global};
 use store::Store;
-
-pub(crate) const NO_MOUNT: &'static str = "no mount";
 
 // A number past 32 bits is no good version or cluster bits, whichever it is.
 fn held(n: u64) -> u32
@@ -97,23 +94,19 @@ impl Session {
         bits: u64,
         size: u64,
         name: &[u8],
-    ) -> Result<Outcome, AllocError>
-        ensures stepped { IfOk result (Stepped (state self.now) (ask.create version bits size name.now)) }
+    ) -> Result<Outcome, Unmet>
+        ensures stepped { Meets (state self.now) (ask.create version bits size name.now) result }
     {
-        let Some(mut lists) = self.lists()? else {
-            return Ok(mistake(NO_STORE));
-        };
+        let mut lists = self.lists()?;
         let mut s = lists.store();
         let r = create(&mut s, held(version), held(bits), size, name);
-        left(self.heap, r, &s)
+        Ok(left(self.heap, r, &s)?)
     }
 
-    pub(crate) fn mount(&self) -> Result<Outcome, AllocError>
-        ensures stepped { IfOk result (Stepped (state self.now) ask.mount) }
+    pub(crate) fn mount(&self) -> Result<Outcome, Unmet>
+        ensures stepped { Meets (state self.now) ask.mount result }
     {
-        let Some(mut lists) = self.lists()? else {
-            return Ok(mistake(NO_STORE));
-        };
+        let mut lists = self.lists()?;
         let header = judged(lists.store());
         Ok(Outcome {
             answer: Answer::Done,
@@ -124,29 +117,21 @@ impl Session {
         })
     }
 
-    pub(crate) fn read(&self, sector: u64, length: u64) -> Result<Outcome, AllocError>
-        ensures stepped { IfOk result (Stepped (state self.now) (ask.read sector length)) }
+    pub(crate) fn read(&self, sector: u64, length: u64) -> Result<Outcome, Unmet>
+        ensures stepped { Meets (state self.now) (ask.read sector length) result }
     {
-        let Some(mounted) = self.mounted else {
-            return Ok(mistake(NO_MOUNT));
-        };
-        let Some(mut lists) = self.lists()? else {
-            return Ok(mistake(NO_STORE));
-        };
+        let mounted = self.mounted()?;
+        let mut lists = self.lists()?;
         let mount = self.over(mounted, &mut lists);
         let answer = sector_of(self.heap, mount, sector, length)?;
         Ok(unchanged(answer))
     }
 
-    pub(crate) fn peek(&self, id: &[u8], sector: u64, length: u64) -> Result<Outcome, AllocError>
-        ensures stepped { IfOk result (Stepped (state self.now) (ask.peek id.now sector length)) }
+    pub(crate) fn peek(&self, id: &[u8], sector: u64, length: u64) -> Result<Outcome, Unmet>
+        ensures stepped { Meets (state self.now) (ask.peek id.now sector length) result }
     {
-        let Some(mounted) = self.mounted else {
-            return Ok(mistake(NO_MOUNT));
-        };
-        let Some(mut lists) = self.lists()? else {
-            return Ok(mistake(NO_STORE));
-        };
+        let mounted = self.mounted()?;
+        let mut lists = self.lists()?;
         let mount = self.over(mounted, &mut lists);
         let answer = snapshot_sector_of(self.heap, mount, id, sector, length)?;
         Ok(unchanged(answer))

@@ -2,6 +2,7 @@
 ghost use Rattle.std.specs.Prelude.{◌≡◌, IfOk};
 ghost use Rattle.answer.specs.Records.{told};
 ghost use Rattle.script.specs.States.{filled as filled_of, verdict};
+ghost use Rattle.script.specs.declared.outcome.Unmet.TheVariants.{OutOfMemory};
 ghost use Rattle.script.specs.Sessions.{Left};
 
 use crate::session::{Base, Mounted};
@@ -26,6 +27,22 @@ pub(crate) enum Change {
 pub(crate) struct Outcome {
     pub(crate) answer: Answer,
     pub(crate) change: Change,
+}
+
+// Why a call gave no outcome.
+#[derive(Drop)]
+pub(crate) enum Unmet {
+    // it has nothing to speak of, as these words say
+    Mistake(&'static str),
+    OutOfMemory(AllocError),
+}
+
+impl From<AllocError> for Unmet {
+    ghost from_gives = { λ e u. u ≡ OutOfMemory e };
+
+    fn from(e: AllocError) -> Unmet {
+        Unmet::OutOfMemory(e)
+    }
 }
 
 // An answer that changes nothing.

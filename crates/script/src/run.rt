@@ -1,27 +1,27 @@
 // What each call does, from the call to its outcome.
 ghost use Rattle.std.specs.Prelude.{IfOk};
 ghost use Rattle.text.specs.Calls.{meant};
-ghost use Rattle.script.specs.Sessions.{state, Stepped};
+ghost use Rattle.script.specs.Sessions.{state, Meets, Stepped};
 
 use crate::disks::set_disk;
-use crate::outcome::{Outcome, mistake};
+use crate::outcome::{Outcome, Unmet, mistake};
 use crate::session::{Base, Session};
-use crate::stores::set_store;
 use lent::Space;
 use std::alloc::AllocError;
 use text::Call;
 
 impl Session {
-    pub(crate) fn run(&self, call: Call) -> Result<Outcome, AllocError>
-        ensures stepped { IfOk result (Stepped (state self.now) (meant call)) }
+    // The outcome of a call that has something to speak of.
+    fn met(&self, call: Call) -> Result<Outcome, Unmet>
+        ensures stepped { Meets (state self.now) (meant call) result }
     {
         match call {
-            Call::StoreFlat { limit, content } => set_store(self.heap, Space::Flat(limit), content),
+            Call::StoreFlat { limit, content } => Ok(self.set_store(Space::Flat(limit), content)?),
             Call::StoreSplit {
                 first,
                 second,
                 content,
-            } => set_store(self.heap, Space::Split(first, second), content),
+            } => Ok(self.set_store(Space::Split(first, second), content)?),
             Call::StoreLength => self.store_length(),
             Call::StoreLimit => self.store_limit(),
             Call::StoreRead { first, count } => self.store_read(first, count),
@@ -31,7 +31,7 @@ impl Session {
             Call::DiskRaw { content } => Ok(set_disk(Base::Raw(content))),
             Call::DiskRescued { content, spoiled } => Ok(set_disk(Base::Rescued(content, spoiled))),
             Call::DiskSectors => Ok(self.disk_sectors()),
-            Call::DiskRead { sector } => self.disk_read(sector),
+            Call::DiskRead { sector } => Ok(self.disk_read(sector)?),
             Call::Create {
                 version,
                 bits,
@@ -43,7 +43,18 @@ impl Session {
             Call::Peek { id, sector, length } => self.peek(id.as_slice(), sector, length),
             Call::Map { id, words } => self.map(id.as_slice(), words),
             Call::Check { words } => self.check(words),
-            Call::Mistake(words) => Ok(mistake(words)),
+            Call::Mistake(words) => Err(Unmet::Mistake(words)),
+        }
+    }
+
+    // A call that has nothing to speak of is a mistake, which is an outcome too.
+    pub(crate) fn run(&self, call: Call) -> Result<Outcome, AllocError>
+        ensures stepped { IfOk result (Stepped (state self.now) (meant call)) }
+    {
+        match self.met(call) {
+            Ok(outcome) => Ok(outcome),
+            Err(Unmet::Mistake(words)) => Ok(mistake(words)),
+            Err(Unmet::OutOfMemory(e)) => Err(e),
         }
     }
 }

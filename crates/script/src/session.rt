@@ -1,13 +1,13 @@
 // A session: the store, the mount and the disk that the lines speak of.
-ghost use Rattle.std.specs.Prelude.{◌≡◌, IfOk, vec_len};
-ghost use Rattle.std.specs.Option.{option_map};
+ghost use Rattle.std.specs.Prelude.{◌≡◌, codes, vec_len};
 ghost use Rattle.script.specs.States.{empty};
-ghost use Rattle.script.specs.Sessions.{lists_kept, state};
+ghost use Rattle.script.specs.Sessions.{lists_kept, state, Found};
 
+use crate::outcome::Unmet;
 use fault::Fault;
 use format::Numbers;
 use lent::{Lists, Space};
-use std::alloc::{AllocError, Global};
+use std::alloc::Global;
 
 // What a mount has of its own: its judgement of the header, and its clean mark.
 #[derive(Clone, Copy)]
@@ -49,14 +49,17 @@ impl Session {
         }
     }
 
-    // Lists for the store, if there is one, with its bytes in use.
-    pub(crate) fn lists(&self) -> Result<Option<Lists>, AllocError>
-        ensures kept { IfOk result (λ o. option_map lists_kept o ≡ (state self.now).store) }
+    // Lists for the store, with its bytes in use.
+    pub(crate) fn lists(&self) -> Result<Lists, Unmet>
+        ensures kept { Found result lists_kept (state self.now).store (codes "no store") }
     {
-        let Some(space) = self.space else {
-            return Ok(None);
-        };
-        let lists = Lists::new(self.heap, space, self.content.as_slice())?;
-        Ok(Some(lists))
+        let space = self.space.ok_or(Unmet::Mistake("no store"))?;
+        Ok(Lists::new(self.heap, space, self.content.as_slice())?)
+    }
+
+    pub(crate) fn mounted(&self) -> Result<Mounted, Unmet>
+        ensures value { Found result (λ m. m) (state self.now).mounted (codes "no mount") }
+    {
+        self.mounted.ok_or(Unmet::Mistake("no mount"))
     }
 }

@@ -4,28 +4,14 @@ ghost use Rattle.store.specs.Stores.{load};
 ghost use Rattle.answer.specs.Records.{told};
 ghost use Rattle.text.specs.Calls as ask;
 ghost use Rattle.script.specs.States.{shows};
-ghost use Rattle.script.specs.Sessions.{state, Stepped};
+ghost use Rattle.script.specs.Sessions.{state, Meets};
 
-use crate::outcome::{Change, Outcome, filled, left, mistake, unchanged};
+use crate::outcome::{Change, Outcome, Unmet, filled, left, unchanged};
 use crate::session::Session;
 use answer::Answer;
 use lent::{BLANK, Lists, Space};
 use std::alloc::{AllocError, Global};
 use store::Store;
-
-pub(crate) const NO_STORE: &str = "no store";
-
-// A new store; lists for which there is no memory are refused here, and not at the first call to the store.
-pub(crate) fn set_store(heap: Global, space: Space, content: Vec<u8>) -> Result<Outcome, AllocError>
-    ensures answer { IfOk result (λ o. o.answer ≡ Answer.Done) }
-    ensures change { IfOk result (λ o. o.change ≡ Change.Store space content) }
-{
-    let _lists = Lists::new(heap, space, content.as_slice())?;
-    Ok(Outcome {
-        answer: Answer::Done,
-        change: Change::Store(space, content),
-    })
-}
 
 // What a read of a run answers.
 fn run_of<S: Store>(heap: Global, s: &S, first: u64, count: u64) -> Result<Answer, AllocError>
@@ -39,53 +25,55 @@ fn run_of<S: Store>(heap: Global, s: &S, first: u64, count: u64) -> Result<Answe
 }
 
 impl Session {
-    pub(crate) fn store_length(&self) -> Result<Outcome, AllocError>
-        ensures stepped { IfOk result (Stepped (state self.now) ask.store_length) }
+    // A new store; lists for which there is no memory are refused here, and not at the first call to the store.
+    pub(crate) fn set_store(&self, space: Space, content: Vec<u8>) -> Result<Outcome, AllocError>
+        ensures answer { IfOk result (λ o. o.answer ≡ Answer.Done) }
+        ensures change { IfOk result (λ o. o.change ≡ Change.Store space content) }
     {
-        let Some(mut lists) = self.lists()? else {
-            return Ok(mistake(NO_STORE));
-        };
+        let _lists = Lists::new(self.heap, space, content.as_slice())?;
+        Ok(Outcome {
+            answer: Answer::Done,
+            change: Change::Store(space, content),
+        })
+    }
+
+    pub(crate) fn store_length(&self) -> Result<Outcome, Unmet>
+        ensures stepped { Meets (state self.now) ask.store_length result }
+    {
+        let mut lists = self.lists()?;
         Ok(unchanged(Answer::Number(lists.store().length())))
     }
 
-    pub(crate) fn store_limit(&self) -> Result<Outcome, AllocError>
-        ensures stepped { IfOk result (Stepped (state self.now) ask.store_limit) }
+    pub(crate) fn store_limit(&self) -> Result<Outcome, Unmet>
+        ensures stepped { Meets (state self.now) ask.store_limit result }
     {
-        let Some(mut lists) = self.lists()? else {
-            return Ok(mistake(NO_STORE));
-        };
+        let mut lists = self.lists()?;
         Ok(unchanged(Answer::Number(lists.store().limit())))
     }
 
-    pub(crate) fn store_read(&self, first: u64, count: u64) -> Result<Outcome, AllocError>
-        ensures stepped { IfOk result (Stepped (state self.now) (ask.store_read first count)) }
+    pub(crate) fn store_read(&self, first: u64, count: u64) -> Result<Outcome, Unmet>
+        ensures stepped { Meets (state self.now) (ask.store_read first count) result }
     {
-        let Some(mut lists) = self.lists()? else {
-            return Ok(mistake(NO_STORE));
-        };
+        let mut lists = self.lists()?;
         let answer = run_of(self.heap, &lists.store(), first, count)?;
         Ok(unchanged(answer))
     }
 
-    pub(crate) fn store_replace(&self, first: u64, new: &[u8]) -> Result<Outcome, AllocError>
-        ensures stepped { IfOk result (Stepped (state self.now) (ask.store_replace first new.now)) }
+    pub(crate) fn store_replace(&self, first: u64, new: &[u8]) -> Result<Outcome, Unmet>
+        ensures stepped { Meets (state self.now) (ask.store_replace first new.now) result }
     {
-        let Some(mut lists) = self.lists()? else {
-            return Ok(mistake(NO_STORE));
-        };
+        let mut lists = self.lists()?;
         let mut s = lists.store();
         let r = s.replace(first, new);
-        left(self.heap, r, &s)
+        Ok(left(self.heap, r, &s)?)
     }
 
-    pub(crate) fn store_grow(&self, length: u64) -> Result<Outcome, AllocError>
-        ensures stepped { IfOk result (Stepped (state self.now) (ask.store_grow length)) }
+    pub(crate) fn store_grow(&self, length: u64) -> Result<Outcome, Unmet>
+        ensures stepped { Meets (state self.now) (ask.store_grow length) result }
     {
-        let Some(mut lists) = self.lists()? else {
-            return Ok(mistake(NO_STORE));
-        };
+        let mut lists = self.lists()?;
         let mut s = lists.store();
         let r = s.grow(length);
-        left(self.heap, r, &s)
+        Ok(left(self.heap, r, &s)?)
     }
 }

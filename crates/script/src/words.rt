@@ -5,12 +5,10 @@ ghost use Rattle.image_check.specs.Outcome.{check_outcome};
 ghost use Rattle.mapping.specs.Maps.{map_outcome};
 ghost use Rattle.text.specs.Calls as ask;
 ghost use Rattle.script.specs.States.{lists, blank_words, checking};
-ghost use Rattle.script.specs.Sessions.{state, Does, Stepped};
+ghost use Rattle.script.specs.Sessions.{state, Does, Meets};
 
-use crate::images::NO_MOUNT;
-use crate::outcome::{Change, Outcome, mistake, unchanged};
+use crate::outcome::{Change, Outcome, Unmet, unchanged};
 use crate::session::{Mounted, Session};
-use crate::stores::NO_STORE;
 use answer::Answer;
 use disk::Disk;
 use image::Mount;
@@ -60,30 +58,22 @@ fn check_of<S: Store + Drop, B: Disk + Drop>(
 }
 
 impl Session {
-    pub(crate) fn map(&self, id: &[u8], count: u64) -> Result<Outcome, AllocError>
-        ensures stepped { IfOk result (Stepped (state self.now) (ask.map id.now count)) }
+    pub(crate) fn map(&self, id: &[u8], count: u64) -> Result<Outcome, Unmet>
+        ensures stepped { Meets (state self.now) (ask.map id.now count) result }
     {
-        let Some(mounted) = self.mounted else {
-            return Ok(mistake(NO_MOUNT));
-        };
-        let Some(mut lists) = self.lists()? else {
-            return Ok(mistake(NO_STORE));
-        };
+        let mounted = self.mounted()?;
+        let mut lists = self.lists()?;
         let mount = self.over(mounted, &mut lists);
         let answer = map_of(self.heap, mount, id, count)?;
         Ok(unchanged(answer))
     }
 
-    pub(crate) fn check(&self, count: u64) -> Result<Outcome, AllocError>
-        ensures stepped { IfOk result (Stepped (state self.now) (ask.check count)) }
+    pub(crate) fn check(&self, count: u64) -> Result<Outcome, Unmet>
+        ensures stepped { Meets (state self.now) (ask.check count) result }
     {
-        let Some(mounted) = self.mounted else {
-            return Ok(mistake(NO_MOUNT));
-        };
-        let Some(mut lists) = self.lists()? else {
-            return Ok(mistake(NO_STORE));
-        };
+        let mounted = self.mounted()?;
+        let mut lists = self.lists()?;
         let mount = self.over(mounted, &mut lists);
-        check_of(self.heap, mounted, mount, count)
+        Ok(check_of(self.heap, mounted, mount, count)?)
     }
 }

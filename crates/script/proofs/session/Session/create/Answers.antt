@@ -1,5 +1,4 @@
-use Rattle.std.proofs.Common.{ℕ, List, length, Result, sym, refl, ap, ◌∙◌}
-use Rattle.std.specs.Option.{option_map}
+use Rattle.std.proofs.Common.{ℕ, List, length, Result, refl, ◌∙◌}
 use Rattle.fault.specs.declared.Fault.{Fault}
 use Rattle.create.specs.Create.{wanted, create_outcome}
 use Rattle.lent.specs.Lent.{any_bytes, any_limit}
@@ -14,8 +13,7 @@ returns c =
     let s = c.store-s.result in
     let bytes = c.store-s.ensures.bytes in
     let most = c.store-s.ensures.limit in
-    let here = sym (ap (option_map lists_kept) c.in-Some.is) ∙ c.in_ok-lists.ensures.kept in
     let name = c.args.name.now in
     let outcome : ℕ → ℕ → List ℕ → ℕ → Result (List ℕ) Fault = λ v b bs l. create_outcome (wanted v b c.args.size (length name)) name (length bs) l in
     let left = c.create-r.new.s in
-    record { stepped = refill (state c.args.self.now) (ask.create c.args.version c.args.bits c.args.size name) (lists_kept c.in-Some.lists) (creation c.args.version c.args.bits c.args.size name) refl here c.create-r.result _ (any_bytes s) (any_bytes left) (any_limit left) (ap_four outcome c.held.ensures.value c.held-2.ensures.value bytes most) bytes (c.create-r.ensures.limit ∙ most) c.create-r.ensures.outcome c.left.result c.left.ensures.left }
+    record { stepped = refill (state c.args.self.now) (ask.create c.args.version c.args.bits c.args.size name) (lists_kept c.in_ok-lists.lists) (creation c.args.version c.args.bits c.args.size name) refl c.in_ok-lists.ensures.kept c.create-r.result _ (any_bytes s) (any_bytes left) (any_limit left) (ap_four outcome c.held.ensures.value c.held-2.ensures.value bytes most) bytes (c.create-r.ensures.limit ∙ most) c.create-r.ensures.outcome _ c.in_ok-left.ensures.left }

@@ -1,5 +1,4 @@
-use Rattle.std.proofs.Common.{sym, refl, ap, ◌∙◌}
-use Rattle.std.specs.Option.{option_map}
+use Rattle.std.proofs.Common.{refl, ap, ◌∙◌}
 use Rattle.store.specs.Stores.{grown}
 use Rattle.lent.specs.Lent.{any_bytes, any_limit}
 use Rattle.text.specs.Calls as ask
@@ -12,6 +11,5 @@ returns c =
     let s = c.store-s.result in
     let bytes = c.store-s.ensures.bytes in
     let most = c.store-s.ensures.limit in
-    let here = sym (ap (option_map lists_kept) c.in-Some.is) ∙ c.in_ok-lists.ensures.kept in
     let left = c.grow-r.new.self in
-    record { stepped = refill (state c.args.self.now) (ask.store_grow c.args.length) (lists_kept c.in-Some.lists) (λ k. grown k.content k.limit c.args.length) refl here c.grow-r.result _ (any_bytes s) (any_bytes left) (any_limit left) (ap (λ b. grown b (any_limit s) c.args.length) bytes ∙ ap (λ l. grown (lists_kept c.in-Some.lists).content l c.args.length) most) bytes (c.grow-r.ensures.limit ∙ most) c.grow-r.ensures.outcome c.left.result c.left.ensures.left }
+    record { stepped = refill (state c.args.self.now) (ask.store_grow c.args.length) (lists_kept c.in_ok-lists.lists) (λ k. grown k.content k.limit c.args.length) refl c.in_ok-lists.ensures.kept c.grow-r.result _ (any_bytes s) (any_bytes left) (any_limit left) (ap (λ b. grown b (any_limit s) c.args.length) bytes ∙ ap (λ l. grown (lists_kept c.in_ok-lists.lists).content l c.args.length) most) bytes (c.grow-r.ensures.limit ∙ most) c.grow-r.ensures.outcome _ c.in_ok-left.ensures.left }

@@ -1,5 +1,4 @@
-use Rattle.std.proofs.Common.{sym, refl, ap, ◌∙◌}
-use Rattle.std.specs.Option.{option_map}
+use Rattle.std.proofs.Common.{refl, ap, ◌∙◌}
 use Rattle.store.specs.Stores.{stored}
 use Rattle.lent.specs.Lent.{any_bytes, any_limit}
 use Rattle.text.specs.Calls as ask
@@ -12,6 +11,5 @@ returns c =
     let s = c.store-s.result in
     let bytes = c.store-s.ensures.bytes in
     let most = c.store-s.ensures.limit in
-    let here = sym (ap (option_map lists_kept) c.in-Some.is) ∙ c.in_ok-lists.ensures.kept in
     let left = c.replace-r.new.self in
-    record { stepped = refill (state c.args.self.now) (ask.store_replace c.args.first c.args.new.now) (lists_kept c.in-Some.lists) (λ k. stored k.content c.args.first c.args.new.now) refl here c.replace-r.result _ (any_bytes s) (any_bytes left) (any_limit left) (ap (λ b. stored b c.args.first c.args.new.now) bytes) bytes (c.replace-r.ensures.limit ∙ most) c.replace-r.ensures.outcome c.left.result c.left.ensures.left }
+    record { stepped = refill (state c.args.self.now) (ask.store_replace c.args.first c.args.new.now) (lists_kept c.in_ok-lists.lists) (λ k. stored k.content c.args.first c.args.new.now) refl c.in_ok-lists.ensures.kept c.replace-r.result _ (any_bytes s) (any_bytes left) (any_limit left) (ap (λ b. stored b c.args.first c.args.new.now) bytes) bytes (c.replace-r.ensures.limit ∙ most) c.replace-r.ensures.outcome _ c.in_ok-left.ensures.left }
