@@ -127,11 +127,17 @@ fn compare<S: Store, B: Disk>(
     equal_in(m, id, words, expected)
 }
 
+// The name that a disk of the list has for the calls.
+fn id_of(id: &str) -> &[u8] {
+    if id == "-" { b"" } else { id.as_bytes() }
+}
+
 // The line of a disk all of whose sectors are equal.
-fn say(rt: &HostRuntime, snapshot: Option<&str>, sectors: u64) -> Result<(), Stop> {
-    match snapshot {
-        None => println!(rt; "  live: {sectors} sectors equal")?,
-        Some(id) => println!(rt; "  snapshot {id}: {sectors} sectors equal")?,
+fn say(rt: &HostRuntime, live: bool, id: &str, sectors: u64) -> Result<(), Stop> {
+    if live {
+        println!(rt; "  live: {sectors} sectors equal")?;
+    } else {
+        println!(rt; "  snapshot {id}: {sectors} sectors equal")?;
     }
     Ok(())
 }
@@ -142,29 +148,25 @@ fn differs(heap: Global, raw: &str, equal: u64, sectors: u64) -> Stop {
     ))
 }
 
-// A disk of an image, live or a snapshot's, and the file with what qemu-img read from it.
-fn hold(rt: &HostRuntime, name: &str, snapshot: Option<&str>, raw: &str) -> Result<(), Stop> {
+// A disk of an image, `-` for the live one, and the file with what qemu-img read from it.
+fn hold(rt: &HostRuntime, name: &str, id: &str, raw: &str) -> Result<(), Stop> {
     let heap = rt.alloc();
     let Opened { top, under, paths } = open(rt, name, PLAIN)?;
     let mut m = Mount::new(top, under.disk());
     let n = m.numbers().map_err(|f| refused(heap, paths.as_slice(), f))?;
-    if snapshot.is_none() {
+    if id == "-" {
         examine(rt, name, &m.store, n)?;
         judge_counts(rt, &mut m, n)?;
     }
     let expected = fs::read(rt, raw)?;
     let mut words = vec![in heap; 0u32; guest_clusters(n) as usize]?;
-    // the empty id is the live disk's
-    let id = snapshot.unwrap_or("").as_bytes();
-    let equal = compare(&m, id, words.as_mut_slice(), expected.as_slice()).map_err(|f| refused(
-        heap,
-        paths.as_slice(),
-        f,
-    ))?;
+    let equal = compare(&m, id_of(id), words.as_mut_slice(), expected.as_slice()).map_err(
+        |f| refused(heap, paths.as_slice(), f),
+    )?;
     if equal != sectors_of(n) || expected.len() as u64 != n.size {
         return Err(differs(heap, raw, equal, sectors_of(n)));
     }
-    say(rt, snapshot, equal)
+    say(rt, id == "-", id, equal)
 }
 
 fn run(rt: &HostRuntime) -> Result<(), Stop> {
@@ -176,9 +178,7 @@ fn run(rt: &HostRuntime) -> Result<(), Stop> {
                 "disks: a line without three words: {line}"
             )));
         };
-        // `-` stands for the live disk
-        let snapshot = if id == "-" { None } else { Some(id) };
-        hold(rt, name, snapshot, raw)?;
+        hold(rt, name, id, raw)?;
     }
     Ok(())
 }
