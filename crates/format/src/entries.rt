@@ -51,8 +51,7 @@ fn placed(n: Numbers, length: u64, offset: u64, copied: bool) -> bool
     if offset == 0 {
         return !copied;
     }
-    let c = n.cluster_size();
-    offset % c == 0 && offset <= length && c <= length - offset
+    n.table_good(length, offset, 1)
 }
 
 fn plain_l1(word: u64) -> bool

@@ -1,6 +1,7 @@
 // A mount: a store, a backing disk, and the judgement of the store's header, made once.
 ghost use Rattle.std.specs.Prelude.{◌≡◌, false, length};
 ghost use Rattle.fault.specs.Outcomes.{Gives};
+ghost use Rattle.guest.specs.Shown.{shows};
 ghost use Rattle.image.specs.Honest.{Honest};
 ghost use Rattle.image.specs.Calls.{sector_judged, room_judged, read_outcome};
 
@@ -65,8 +66,22 @@ impl<S: Store, B: Disk> Mount<S, B> {
     {
         let n = self.header?;
         judge_sector(n, sector, buffer.len())?;
+        self.show(n, n.l1, sector, buffer)
+    }
+
+    // The sector under the L1 table at `table`, into a buffer that was judged.
+    pub(crate) fn show(
+        &self,
+        n: Numbers,
+        table: u64,
+        sector: u64,
+        buffer: &mut [u8],
+    ) -> Result<(), Fault>
+        requires { length buffer.old ≡ 512 }
+        ensures outcome { Gives result (shows n (S.Store.bytes self.now.store) (B.Disk.reading self.now.backing) table sector) buffer.old buffer.new }
+    {
         let mut out = [0u8; 512];
-        read_guest(&self.store, &self.backing, n, n.l1, sector, &mut out)?;
+        read_guest(&self.store, &self.backing, n, table, sector, &mut out)?;
         buffer.copy_from_slice(&out);
         Ok(())
     }

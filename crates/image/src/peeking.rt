@@ -6,7 +6,6 @@ ghost use Rattle.image.specs.Calls.{peek_outcome};
 use crate::mount::{Mount, judge_sector};
 use disk::Disk;
 use fault::Fault;
-use guest::read_guest;
 use snapshot::{judge_id, table_of};
 use store::Store;
 
@@ -19,9 +18,6 @@ impl<S: Store, B: Disk> Mount<S, B> {
         judge_sector(n, sector, buffer.len())?;
         judge_id(id)?;
         let table = table_of(&self.store, n, id)?;
-        let mut out = [0u8; 512];
-        read_guest(&self.store, &self.backing, n, table, sector, &mut out)?;
-        buffer.copy_from_slice(&out);
-        Ok(())
+        self.show(n, table, sector, buffer)
     }
 }

@@ -7,7 +7,7 @@ ghost use Rattle.store.specs.Stores.{load, stored, run_judged};
 use byte_lists::within;
 use fault::{Fault, Layer, Reason};
 
-fn judge_run(first: u64, n: usize, length: usize) -> Result<(), Fault>
+pub(crate) fn judge_run(first: u64, n: usize, length: usize) -> Result<(), Fault>
     ensures value { result ≡ run_judged first n length }
 {
     let passed = within(first, n as u64, length as u64);

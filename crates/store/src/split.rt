@@ -3,8 +3,7 @@ ghost use Rattle.std.specs.Prelude.{◌≡◌, ◌+◌, ◌++◌, length, take};
 ghost use Rattle.byte_lists.specs.Runs.{EachOctet};
 
 use crate::Store;
-use crate::runs::{clear_run, copy_run, replace_run};
-use byte_lists::within;
+use crate::runs::{clear_run, copy_run, judge_run, replace_run};
 use fault::{Fault, Layer, Reason};
 
 #[derive(Drop)]
@@ -83,9 +82,7 @@ impl Store for SplitStore<'_> {
     }
 
     fn read(&self, first: u64, out: &mut [u8]) -> Result<(), Fault> {
-        if !within(first, out.len() as u64, self.in_use() as u64) {
-            return Err(Fault::new(Reason::PastStore, Layer::Store, first));
-        }
+        judge_run(first, out.len(), self.in_use())?;
         let n = out.len();
         let Cut { before, low, high } = Cut::across(first as usize, n, self.front.len());
         copy_run(self.front, low, &mut out[0..before]);
@@ -94,9 +91,7 @@ impl Store for SplitStore<'_> {
     }
 
     fn replace(&mut self, first: u64, new: &[u8]) -> Result<(), Fault> {
-        if !within(first, new.len() as u64, self.in_use() as u64) {
-            return Err(Fault::new(Reason::PastStore, Layer::Store, first));
-        }
+        judge_run(first, new.len(), self.in_use())?;
         let Cut { before, low, high } = Cut::across(first as usize, new.len(), self.front.len());
         replace_run(self.front, low, &new[0..before]);
         replace_run(self.back, high, &new[before..new.len()]);

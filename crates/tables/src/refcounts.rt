@@ -2,7 +2,6 @@
 ghost use Rattle.std.specs.Prelude.{◌≡◌, ◌^◌, ◌<◌, ◌≤◌};
 ghost use Rattle.tables.specs.Refcounts.{per_block, blocks as blocks_of, block_place, block_entry, block_at, count_in, count as count_of};
 
-use byte_lists::within;
 use fault::{Fault, Layer, Reason};
 use format::{Numbers, entry_place};
 use store::{Store, read_number};
@@ -28,8 +27,7 @@ pub fn blocks(n: Numbers) -> u32
 pub fn judge_block(n: Numbers, length: u64, place: u64, word: u64) -> Result<u64, Fault>
     ensures value { result ≡ block_entry n length place word }
 {
-    let c = n.cluster_size();
-    let placed = word == 0 || (word % c == 0 && within(word, c, length));
+    let placed = word == 0 || n.table_good(length, word, 1);
     Layer::Tables.demand(placed, Reason::BadEntry, place)?;
     Ok(word)
 }

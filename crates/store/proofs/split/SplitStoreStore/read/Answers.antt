@@ -1,5 +1,6 @@
 use Rattle.std.proofs.Common.{◌≡◌, ◌+◌, ◌-◌, ◌≤◌, ◌++◌, length, sym, refl, ap, ◌∙◌, arith, length-append}
 use borrow.Rule.Slice.PartMut.{put_mid}
+use Rattle.fault.proofs.Outcomes.{demand_met}
 use Rattle.byte_lists.specs.Runs.{run}
 use Rattle.byte_lists.proofs.Runs.{run_take, length_run}
 use Rattle.store.specs.Split.{joined, split_bytes}
@@ -15,7 +16,7 @@ copy_run-requires-2 c =
     let n = length out in
     let k = c.across-before.result.before in
     let lies = c.across-before.ensures.lies in
-    let fits = passed (c.args.first + n) _ _ c.if-not-within.ensures.value c.in_use.ensures.value in
+    let fits = passed (c.args.first + n) _ _ (sym (demand_met _ _ _ c.in_ok-judge_run.ensures.value)) c.in_use.ensures.value in
     let total = (front_within (joined s) s.used _ fits).1 in
     let sum = length-append s.front.now s.back.now in
     let long : length c.copy_run.new.out ≡ k = ap length c.copy_run.ensures.after ∙ ap (λ m. length (run s.front.now c.across-before.result.low m)) (length_head out k n refl lies.few) ∙ length_run s.front.now c.across-before.result.low k lies.front in
@@ -34,7 +35,7 @@ returns c =
     let low = c.across-before.result.low in
     let high = c.across-before.result.high in
     let lies = c.across-before.ensures.lies in
-    let fits = passed (at + n) _ _ c.if-not-within.ensures.value c.in_use.ensures.value in
+    let fits = passed (at + n) _ _ (sym (demand_met _ _ _ c.in_ok-judge_run.ensures.value)) c.in_use.ensures.value in
     let front = front_within (joined s) s.used (at + n) fits in
     let sum : at + n ≤ length a + length b = omega (arith, length-append a b, front.1) in
     let x : c.copy_run.new.out ≡ run a low k = c.copy_run.ensures.after ∙ ap (run a low) (length_head out k n refl lies.few) in

@@ -1,4 +1,5 @@
 use Rattle.std.proofs.Common.{◌≡◌, ◌+◌, ◌-◌, ◌≤◌, ◌++◌, length, take, drop, sym, refl, ap, ◌∙◌, arith, length-append}
+use Rattle.fault.proofs.Outcomes.{demand_met}
 use Rattle.byte_lists.specs.Runs.{run, put}
 use Rattle.byte_lists.proofs.Runs.{take_put, length-put}
 use Rattle.byte_lists.proofs.Octets.{octets_after, octets_of, octets_take, octets_drop}
@@ -14,7 +15,7 @@ replace_run-requires-2 c =
     let new = c.args.new.now in
     let k = c.across-before.result.before in
     let lies = c.across-before.ensures.lies in
-    let fits = passed (c.args.first + length new) _ _ c.if-not-within.ensures.value c.in_use.ensures.value in
+    let fits = passed (c.args.first + length new) _ _ (sym (demand_met _ _ _ c.in_ok-judge_run.ensures.value)) c.in_use.ensures.value in
     let total = (front_within (joined s) s.used _ fits).1 in
     let sum = length-append s.front.now s.back.now in
     let part = length_tail new k (length new) refl in
@@ -32,7 +33,7 @@ returns c =
     let low = c.across-before.result.low in
     let high = c.across-before.result.high in
     let lies = c.across-before.ensures.lies in
-    let fits = passed (at + length new) _ _ c.if-not-within.ensures.value c.in_use.ensures.value in
+    let fits = passed (at + length new) _ _ (sym (demand_met _ _ _ c.in_ok-judge_run.ensures.value)) c.in_use.ensures.value in
     let front = front_within (joined s) s.used (at + length new) fits in
     let sum : at + length new ≤ length a + length b = omega (arith, length-append a b, front.1) in
     let cut : k - 0 ≡ k = omega arith in
