@@ -1,18 +1,17 @@
 -- A chain by its top layer: what it shows and what is below. Assumes nothing.
-use Rattle.std.proofs.Common.{◌≡◌, ℕ, ◌+◌, ◌-◌, ◌*◌, ◌/◌, ◌%◌, ◌^◌, ◌<◌, ◌≤◌, min, Bool, true, false, cond, not, ◌&&◌, ◌||◌, eqb, ltb, leb, List, [], ◌∷◌, length, get_or, take, drop, Ok, Err, Result, sym, refl, ap, ◌∙◌, inl, inr, arith}
+use Rattle.std.proofs.Common.{◌≡◌, ℕ, Option, None, Some, is_none, ◌-◌, ◌/◌, ◌^◌, ◌<◌, ◌≤◌, min, Bool, true, false, cond, not, ◌&&◌, ◌||◌, eqb, ltb, leb, List, [], ◌∷◌, length, get_or, take, drop, Ok, Err, Result, sym, refl, ap, ◌∙◌, inl, inr, arith}
 use Rattle.std.proofs.lemmas.List.{take_rest}
 use Rattle.std.proofs.lemmas.Bool.{cond-true, cond-false, lt-ltb, le-ltb, le-leb, lt-leb, ltb-true, ltb-false, and_parts, and_cases, not-true, not-false, or_left, or_right, or_from, false≢true}
 use Rattle.fault.specs.declared.Fault.{Fault}
 use Rattle.fault.specs.Outcomes.{and_then}
 use Rattle.byte_lists.specs.Runs.{zeros}
-use Rattle.store.specs.Stores.{load}
 use Rattle.disk.specs.Readings.{Reading, past_end}
 use Rattle.disk.specs.Disks.{zeros_reading}
 use Rattle.format.specs.declared.numbers.Numbers.{Numbers}
+use Rattle.format.specs.Header.{has_backing}
 use Rattle.format.specs.Clusters.{per_cluster}
 use Rattle.format.specs.declared.entries.Entry.{Entry}
-use Rattle.store.specs.Words.{held}
-use Rattle.guest.specs.Shown.{mount_sectors, mount_reading, guest_entry, passed_up, under, entry_shows, shows}
+use Rattle.guest.specs.Shown.{mount_sectors, mount_reading, guest_entry, passed_up, under, offset_shows, entry_shows, shows}
 use Rattle.guest.proofs.Sounding.{mount_reading-by_sector, sector_by_sector}
 use Rattle.chain.specs.Chains.{chain_of}
 
@@ -60,7 +59,7 @@ module _ {L : Type 0} (header : L → Result Numbers Fault) (bytes : L → List 
 
 -- whether the disk below shows through an entry
 abbrev pub goes : Numbers → Entry → ℕ → ℕ → Bool
-goes n e s below = not e.zero && (eqb e.offset 0 && (not (eqb n.name 0) && ltb s below))
+goes n e s below = not e.zero && (is_none e.offset && (has_backing n && ltb s below))
 
 module _ (n : Numbers) (bs : List ℕ) (low : Reading) (s : ℕ) where
   nothing_under : not (eqb n.name 0) && ltb s low.sectors ≡ false → under n (zeros_reading 0) s ≡ under n low s
@@ -73,27 +72,23 @@ module _ (n : Numbers) (bs : List ℕ) (low : Reading) (s : ℕ) where
         ∙ sym (cond-true (eqb n.name 0 || leb low.sectors s) _ _ (or_right (eqb n.name 0) _ (le-leb low.sectors s (ltb-false s low.sectors b))))
   ]
 
-  parts_stay : (z : Bool) (o : ℕ) → not z && (eqb o 0 && (not (eqb n.name 0) && ltb s low.sectors)) ≡ false →
-      cond z (Ok (zeros 512)) (cond (eqb o 0) (under n (zeros_reading 0) s) (load bs (held (o + s % per_cluster n * 512)) 512))
-      ≡ cond z (Ok (zeros 512)) (cond (eqb o 0) (under n low s) (load bs (held (o + s % per_cluster n * 512)) 512))
+  parts_stay : (z : Bool) (o : Option ℕ) → not z && (is_none o && (has_backing n && ltb s low.sectors)) ≡ false →
+      cond z (Ok (zeros 512)) (offset_shows n bs (zeros_reading 0) o s) ≡ cond z (Ok (zeros 512)) (offset_shows n bs low o s)
   parts_stay true o h = refl
-  parts_stay false o h = elim (and_cases (eqb o 0) _ h) [
-    | inl data' ↦ ap (λ b. cond b (under n (zeros_reading 0) s) (load bs (held (o + s % per_cluster n * 512)) 512)) data' ∙ sym (ap (λ b. cond b (under n low s) (load bs (held (o + s % per_cluster n * 512)) 512)) data')
-    | inr none ↦ ap (λ u. cond (eqb o 0) u (load bs (held (o + s % per_cluster n * 512)) 512)) (nothing_under none)
-  ]
+  parts_stay false None h = nothing_under h
+  parts_stay false (Some at) h = refl
 
   -- where it does not, any disk may stand below
   pub stays : (e : Entry) (k : ℕ) → k ≡ low.sectors → false ≡ goes n e s k → entry_shows n bs (zeros_reading 0) e s ≡ entry_shows n bs low e s
   stays e k is h = parts_stay e.zero e.offset (ap (λ j. goes n e s j) (sym is) ∙ sym h)
 
-  parts_go : (z : Bool) (o : ℕ) → not z && (eqb o 0 && (not (eqb n.name 0) && ltb s low.sectors)) ≡ true →
-      cond z (Ok (zeros 512)) (cond (eqb o 0) (under n low s) (load bs (held (o + s % per_cluster n * 512)) 512)) ≡ passed_up (low.answer s)
+  parts_go : (z : Bool) (o : Option ℕ) → not z && (is_none o && (has_backing n && ltb s low.sectors)) ≡ true →
+      cond z (Ok (zeros 512)) (offset_shows n bs low o s) ≡ passed_up (low.answer s)
   parts_go true o h = absurd (false≢true h)
-  parts_go false o h =
-      let a = and_parts (eqb o 0) _ h in
-      let b = and_parts (not (eqb n.name 0)) _ a.1 in
-      cond-true (eqb o 0) _ _ a.0
-      ∙ cond-false (eqb n.name 0 || leb low.sectors s) _ _ (or_from (eqb n.name 0) _ (not-true (eqb n.name 0) b.0) (lt-leb low.sectors s (ltb-true s low.sectors b.1)))
+  parts_go false (Some at) h = absurd (false≢true h)
+  parts_go false None h =
+      let b = and_parts (has_backing n) _ h in
+      cond-false (eqb n.name 0 || leb low.sectors s) _ _ (or_from (eqb n.name 0) _ (not-true (eqb n.name 0) b.0) (lt-leb low.sectors s (ltb-true s low.sectors b.1)))
 
   -- where it does, its answer is passed up
   pub passes : (e : Entry) (k : ℕ) → k ≡ low.sectors → true ≡ goes n e s k → entry_shows n bs low e s ≡ passed_up (low.answer s)

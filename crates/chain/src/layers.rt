@@ -1,6 +1,7 @@
 // The layers of a chain, the top one first, read one after another.
-ghost use Rattle.std.specs.Prelude.{◌≡◌, Bool, not, ◌&&◌, ◌==◌, nat_lt};
+ghost use Rattle.std.specs.Prelude.{◌≡◌, not, ◌&&◌, is_none, nat_lt};
 ghost use Rattle.fault.specs.Outcomes.{Gives};
+ghost use Rattle.format.specs.Header.{has_backing};
 ghost use Rattle.chain.specs.Chains.{chain_of};
 
 use disk::{Disk, ZerosDisk};
@@ -27,9 +28,9 @@ pub(crate) fn sectors_in<S: Store, B: Disk>(layers: &[Layer<S>], base: &B) -> u6
 
 // Whether the disk below, of so many sectors, shows through an entry.
 fn goes_under(n: Numbers, e: Entry, sector: u64, below: u64) -> bool
-    ensures value { result ≡ (not e.zero && (e.offset == 0 && (not (n.name == 0) && nat_lt sector below))) }
+    ensures value { result ≡ (not e.zero && (is_none e.offset && (has_backing n && nat_lt sector below))) }
 {
-    !e.zero && e.offset == 0 && n.name != 0 && sector < below
+    !e.zero && e.offset.is_none() && n.has_backing() && sector < below
 }
 
 // A sector of the top layer, or of the first one below that has it, a fault one deeper for each layer passed.

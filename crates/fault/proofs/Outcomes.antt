@@ -1,5 +1,5 @@
 -- What a judgement after another says of both. Assumes nothing.
-use Rattle.std.proofs.Common.{◌≡◌, ℕ, zero, suc, ◌+◌, ◌-◌, ◌<◌, ◌≤◌, Bool, true, false, cond, Ok, Err, Result, sym, refl, ap, ◌∙◌, add-zero, arith}
+use Rattle.std.proofs.Common.{IsErrAnd, ◌≡◌, ℕ, zero, suc, ◌+◌, ◌-◌, ◌<◌, ◌≤◌, Bool, true, false, cond, Ok, Err, Result, sym, refl, ap, ◌∙◌, add-zero, arith}
 use Rattle.fault.specs.declared.Fault.{Fault}
 use Rattle.fault.specs.Outcomes.{demanded, and_then, each}
 
@@ -53,6 +53,11 @@ module _ {X : Type 0} (f : ℕ → Result X Fault) (i e : ℕ) where
 
   pub each_none : e ≤ i → each f i (e - i) ≡ Ok tt
   each_none le = let h : e - i ≡ 0 = omega arith in ap (each f i) h
+
+-- what a loop answers at its first fault is what the whole gives, since what was left to judge does
+pub each_stops : {X : Type 0} (f : ℕ → Result X Fault) (i e : ℕ) (d : Fault) (r whole : Result (Unit {0}) Fault) → i < e → Err d ≡ f i → IsErrAnd r (λ y. y ≡ d) → each f i (e - i) ≡ whole → r ≡ whole
+each_stops f i e d (Ok u) whole lt h is left = absurd is
+each_stops f i e d (Err y) whole lt h is left = ap (λ z. Err z) is ∙ sym (each_bad f i e lt d h) ∙ left
 
 -- each of them was good
 pub each_is : {X : Type 0} (f : ℕ → Result X Fault) (k i : ℕ) (u : Unit {0}) → each f i k ≡ Ok u → (j : ℕ) → j < k → (x : X) × (f (i + j) ≡ Ok x)

@@ -1,7 +1,7 @@
 // Faults: why a call refused, in which layer, at which place, and how many backing disks down.
 #![tactic(auto)]
 
-ghost use Rattle.std.specs.Prelude.{◌≡◌, [], ◌∷◌, Some, Decides};
+ghost use Rattle.std.specs.Prelude.{◌≡◌, Some, Decides};
 ghost use Rattle.std.proofs.Math.Utf8.{encode};
 ghost use Rattle.fault.specs.Outcomes.{demanded};
 ghost use Rattle.fault.specs.Faults.{number as number_of, letter as letter_of, words as words_of, fault, deeper as deeper_of, shown as shown_of, same_reason, same_fault, refusal_shown, verdict_shown};

@@ -1,20 +1,24 @@
 -- Entries of L1 and L2 tables, judged. Assumes nothing.
---   offset_in    the offset, bits 9 to 55
+--   leads        where a number of the format leads: 0 is nowhere
+--   offset_in    where the offset leads, bits 9 to 55
 --   copied_in    the copied flag, bit 63
---   placed       an offset is 0 without a copied flag, or a whole cluster of the store
+--   placed       no offset and no copied flag, or an offset at a whole cluster of the store
 --   l1_entry     an L1 entry, or the fault at its place
 --   l2_entry     an L2 entry, or the fault at its place: compressed before bad
-use Rattle.std.specs.Prelude.{ℕ, ◌+◌, ◌*◌, ◌/◌, ◌%◌, ◌^◌, Bool, false, cond, not, ◌&&◌, ◌||◌, Ok, Err, Result, ◌==◌, nat_le}
+use Rattle.std.specs.Prelude.{ℕ, Option, None, Some, ◌*◌, ◌/◌, ◌%◌, ◌^◌, Bool, false, cond, not, ◌&&◌, ◌||◌, Ok, Err, Result, ◌==◌}
 use Rattle.fault.specs.declared.Fault.{Fault}
 use Rattle.fault.specs.declared.Layer.TheVariants.{Tables}
 use Rattle.fault.specs.declared.Reason.TheVariants.{BadEntry, Compressed}
 use Rattle.fault.specs.Faults.{fault}
 use Rattle.format.specs.declared.numbers.Numbers.{Numbers}
 use Rattle.format.specs.declared.entries.Entry.{Entry}
-use Rattle.format.specs.Clusters.{cluster}
+use Rattle.format.specs.Header.{table_good}
 
-abbrev pub offset_in : ℕ → ℕ
-offset_in w = w % 2 ^ 56 / 512 * 512
+abbrev pub leads : ℕ → Option ℕ
+leads x = cond (x == 0) None (Some x)
+
+abbrev pub offset_in : ℕ → Option ℕ
+offset_in w = leads (w % 2 ^ 56 / 512 * 512)
 
 abbrev pub copied_in : ℕ → Bool
 copied_in w = w / 2 ^ 63 % 2 == 1
@@ -25,8 +29,9 @@ compressed_in w = w / 2 ^ 62 % 2 == 1
 abbrev pub zero_in : ℕ → Bool
 zero_in w = w % 2 == 1
 
-abbrev pub placed : Numbers → ℕ → ℕ → Bool → Bool
-placed n len offset copied = cond (offset == 0) (not copied) (offset % cluster n == 0 && nat_le (offset + cluster n) len)
+abbrev pub placed : Numbers → ℕ → Option ℕ → Bool → Bool
+placed n len None copied = not copied
+placed n len (Some offset) copied = table_good n len offset 1
 
 -- bits 0 to 8 and 56 to 62 are zero
 abbrev pub l1_plain : ℕ → Bool

@@ -83,6 +83,9 @@ extent_good n = nat_le 1 n.extent && nat_le n.extent 64
 abbrev pub records_good : Numbers → ℕ → Bool
 records_good n len = n.snapshots == 0 || table_good n len n.records 1
 
+abbrev pub has_backing : Numbers → Bool
+has_backing n = not (n.name == 0)
+
 abbrev pub letters_good : Numbers → Bool
 letters_good n = n.name == 0 || (nat_le 1 n.letters && nat_le n.letters 1023)
 
@@ -123,6 +126,10 @@ header_of first len = and_then (good (opens first) NotQcow2 0) λ _. judged (fie
 
 abbrev pub header : List ℕ → Result Numbers Fault
 header bs = header_of bs (length bs)
+
+-- whether a header has a backing name, and so many bytes hold all of it
+abbrev pub name_in : Numbers → ℕ → Bool
+name_in n length = not (n.name == 0) && nat_le (n.name + n.letters) length
 
 -- the cluster bits that the first bytes claim, if they are good ones
 abbrev pub claimed : List ℕ → Bool

@@ -1,15 +1,20 @@
 // Entries of L1 and L2 tables: what the 64 bits say, judged.
-ghost use Rattle.std.specs.Prelude.{◌≡◌, ◌+◌, ◌*◌, Bool};
+ghost use Rattle.std.specs.Prelude.{◌≡◌, ◌+◌, ◌*◌, not};
 ghost use Rattle.store.specs.Words.{held};
-ghost use Rattle.format.specs.Entries.{offset_in, copied_in, zero_in, placed as placed_by, l1_plain, l2_plain, l1_entry, l2_entry};
+ghost use Rattle.fault.specs.declared.Layer.TheVariants.{Tables};
+ghost use Rattle.fault.specs.declared.Reason.TheVariants.{Compressed};
+ghost use Rattle.fault.specs.Faults.{fault};
+ghost use Rattle.fault.specs.Outcomes.{demanded};
+ghost use Rattle.format.specs.Entries.{leads, offset_in, copied_in, compressed_in, placed as placed_by, l1_plain, l2_plain, l1_entry, l2_entry};
 
 use crate::numbers::Numbers;
 use fault::{Fault, Layer, Reason};
 
-// Where an entry leads: an offset in the store or 0, the copied flag, and whether it reads as zeros.
+// Where an entry leads, the copied flag, and whether it reads as zeros.
 #[derive(Clone, Copy, PartialEq, Eq, Debug)]
 pub struct Entry {
-    pub offset: u64,
+    // where the cluster lies that it names
+    pub offset: Option<u64>,
     pub copied: bool,
     pub zero: bool,
 }
@@ -17,10 +22,17 @@ pub struct Entry {
 impl Entry {
     // What a table shows where it has nothing.
     pub const EMPTY: Entry = Entry {
-        offset: 0,
+        offset: None,
         copied: false,
         zero: false,
     };
+}
+
+// Where a number of the format leads; 0 stands for nowhere.
+pub fn leads(offset: u64) -> Option<u64>
+    ensures value { result ≡ leads offset }
+{
+    (offset != 0).then_some(offset)
 }
 
 // Where the i-th entry of a table stands; a place past 64 bits is past every store.
@@ -32,10 +44,10 @@ pub fn entry_place(table: u64, i: u64) -> u64
 
 const ABOVE_OFFSET: u64 = 1 << 56;
 
-fn offset_in(word: u64) -> u64
+fn offset_in(word: u64) -> Option<u64>
     ensures value { result ≡ offset_in word }
 {
-    word % ABOVE_OFFSET / 512 * 512
+    leads(word % ABOVE_OFFSET / 512 * 512)
 }
 
 fn copied_in(word: u64) -> bool
@@ -44,14 +56,11 @@ fn copied_in(word: u64) -> bool
     word / (1 << 63) % 2 == 1
 }
 
-// An offset is 0 and has no copied flag, or it is a whole cluster of the store.
-fn placed(n: Numbers, length: u64, offset: u64, copied: bool) -> bool
+// Without an offset there is no copied flag; an offset is at a whole cluster of the store.
+fn placed(n: Numbers, length: u64, offset: Option<u64>, copied: bool) -> bool
     ensures value { result ≡ placed_by n length offset copied }
 {
-    if offset == 0 {
-        return !copied;
-    }
-    n.table_good(length, offset, 1)
+    offset.map_or(!copied, |at| n.table_good(length, at, 1))
 }
 
 fn plain_l1(word: u64) -> bool
@@ -81,12 +90,19 @@ pub fn judge_l1(n: Numbers, length: u64, place: u64, word: u64) -> Result<Entry,
     })
 }
 
-// Judges an L2 entry likewise; a compressed one is refused as such, whatever else is wrong with it.
+// A compressed L2 entry is refused as such, whatever else is wrong with it.
+pub fn judge_plain(place: u64, word: u64) -> Result<(), Fault>
+    ensures value { result ≡ demanded (not (compressed_in word)) (fault Compressed Tables place) }
+{
+    let plain = word / (1 << 62) % 2 != 1;
+    Layer::Tables.demand(plain, Reason::Compressed, place)
+}
+
+// Judges an L2 entry likewise.
 pub fn judge_l2(n: Numbers, length: u64, place: u64, word: u64) -> Result<Entry, Fault>
     ensures value { result ≡ l2_entry n length place word }
 {
-    let plain = word / (1 << 62) % 2 != 1;
-    Layer::Tables.demand(plain, Reason::Compressed, place)?;
+    judge_plain(place, word)?;
     let offset = offset_in(word);
     let copied = copied_in(word);
     let good = plain_l2(n, word) && placed(n, length, offset, copied);

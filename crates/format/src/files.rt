@@ -1,9 +1,10 @@
 // Images in files: qemu-img may end a file inside its last cluster, which is then taken as filled up with zeros.
-ghost use Rattle.std.specs.Prelude.{◌≡◌, ◌<◌};
-ghost use Rattle.format.specs.Header.{filled_up, filled_length};
+ghost use Rattle.std.specs.Prelude.{◌≡◌, ◌<◌, true, false, length, MatchOption};
+ghost use Rattle.byte_lists.specs.Runs.{run};
+ghost use Rattle.format.specs.Header.{filled_up, filled_length, name_in};
 
-use crate::numbers::cluster_of;
-use byte_lists::number_at;
+use crate::numbers::{Numbers, cluster_of};
+use byte_lists::{number_at, within};
 
 fn fill_up(n: u64, c: u64) -> u64
     requires { 0 < c }
@@ -23,5 +24,18 @@ pub fn filled_length(first: &[u8], length: u64) -> u64
     match number_at::<u32>(first, 20) {
         Some(bits) if 9 <= bits && bits <= 21 => fill_up(length, cluster_of(bits)),
         _ => length,
+    }
+}
+
+impl Numbers {
+    // The backing name in an image's first bytes; none if the image has none, or the bytes end before it does.
+    pub fn backing_name(self, first: &[u8]) -> Option<&[u8]>
+        ensures value { MatchOption result (name_in self (length first.now) ≡ false) (λ s. (name_in self (length first.now) ≡ true) × (s.now ≡ run first.now self.name self.letters)) }
+    {
+        if !self.has_backing() || !within(self.name, self.letters as u64, first.len() as u64) {
+            return None;
+        }
+        let from = self.name as usize;
+        Some(&first[from..from + self.letters as usize])
     }
 }

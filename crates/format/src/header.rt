@@ -1,5 +1,5 @@
 // Judging a header: the first bytes of a store, to its numbers or the first fault.
-ghost use Rattle.std.specs.Prelude.{◌≡◌, ◌+◌, ◌≤◌, Bool, true, false, length, drop, if◌then◌else◌, MatchOption, nat_eq, nat_le};
+ghost use Rattle.std.specs.Prelude.{◌≡◌, ◌+◌, ◌≤◌, true, false, length, drop, if◌then◌else◌, MatchOption, nat_eq};
 ghost use Rattle.format.specs.Header.{fields_from, header as header_in, header_of, opens, kind_judged, places_judged, version_good, bits_good, length_good, header_good, size_good, table_good, extent_good, records_good, letters_good, name_good};
 
 use crate::numbers::Numbers;
@@ -65,13 +65,13 @@ impl Numbers {
     fn letters_good(self) -> bool
         ensures value { result ≡ letters_good self }
     {
-        self.name == 0 || (1 <= self.letters && self.letters <= 1023)
+        !self.has_backing() || (1 <= self.letters && self.letters <= 1023)
     }
 
     fn name_good(self) -> bool
         ensures value { result ≡ name_good self }
     {
-        self.name == 0
+        !self.has_backing()
             || (self.header as u64 <= self.name
                 && within(self.name, self.letters as u64, self.cluster_size()))
     }

@@ -6,7 +6,7 @@ mod files;
 mod header;
 mod numbers;
 
-pub use entries::{Entry, entry_place, judge_l1, judge_l2};
+pub use entries::{Entry, entry_place, judge_l1, judge_l2, judge_plain, leads};
 pub use files::filled_length;
 pub use header::{judge, judge_store};
 pub use numbers::Numbers;

@@ -1,7 +1,9 @@
 // The numbers of a header, and what follows from them.
-ghost use Rattle.std.specs.Prelude.{◌≡◌, ◌/◌, ◌^◌, ◌≤◌};
+ghost use Rattle.std.specs.Prelude.{◌≡◌, ◌+◌, ◌*◌, ◌/◌, ◌^◌, ◌≤◌};
 ghost use Rattle.format.specs.Clusters.{cluster, cluster_of, per_table, per_cluster, sectors as sectors_of};
-ghost use Rattle.format.specs.Header.{needed};
+ghost use Rattle.format.specs.Header.{needed, has_backing};
+
+use std::ops::Range;
 
 #[derive(Clone, Copy, PartialEq, Eq, Debug)]
 pub struct Numbers {
@@ -80,5 +82,29 @@ impl Numbers {
     {
         let span = self.cluster_size() * self.table_entries();
         self.size.div_ceil(span)
+    }
+
+    // Whether the header has a backing name.
+    pub fn has_backing(self) -> bool
+        ensures value { result ≡ has_backing self }
+    {
+        self.name != 0
+    }
+
+    // The whole clusters of a store of this length.
+    pub fn clusters_in(self, length: u64) -> u64
+        ensures value { result ≡ length / cluster self }
+        ensures most { result ≤ 2 ^ 55 }
+    {
+        length / self.cluster_size()
+    }
+
+    // The guest clusters under the i-th entry of an L1 table.
+    pub fn clusters_under(self, i: u32) -> Range<u64>
+        ensures start { result.start ≡ i * per_table self }
+        ensures end { result.end ≡ i * per_table self + per_table self }
+    {
+        let first = i as u64 * self.table_entries();
+        first..first + self.table_entries()
     }
 }

@@ -1,5 +1,5 @@
 -- What a mount shows is a sound disk: whole sectors or faults, over any store and any sound backing disk. Assumes nothing.
-use Rattle.std.proofs.Common.{◌≡◌, ℕ, ◌+◌, ◌*◌, ◌/◌, ◌%◌, ◌^◌, cond, ◌||◌, eqb, leb, List, length, Ok, Err, Result, refl, arith}
+use Rattle.std.proofs.Common.{◌≡◌, ℕ, Option, None, Some, ◌+◌, ◌*◌, ◌/◌, ◌%◌, ◌^◌, ◌||◌, eqb, leb, List, length, Ok, Err, Result, refl, arith}
 use Rattle.std.proofs.lemmas.Bool.{cond_both, leb-true}
 use Rattle.fault.specs.declared.Fault.{Fault}
 use Rattle.fault.specs.declared.Layer.TheVariants.{Store}
@@ -16,7 +16,7 @@ use Rattle.format.specs.declared.numbers.Numbers.{Numbers}
 use Rattle.format.specs.declared.entries.Entry.{Entry}
 use Rattle.format.specs.Clusters.{per_cluster}
 use Rattle.store.specs.Words.{held}
-use Rattle.guest.specs.Shown.{guest_entry, guest_sectors, mount_sectors, passed_up, under, entry_shows, shows, table_reading, live_reading, mount_reading}
+use Rattle.guest.specs.Shown.{guest_entry, guest_sectors, mount_sectors, passed_up, under, offset_shows, entry_shows, shows, table_reading, live_reading, mount_reading}
 
 whole_zeros : Whole (Ok (zeros 512))
 whole_zeros = (length-zeros 512, octets_zeros 512)
@@ -39,11 +39,12 @@ module _ (n : Numbers) (bs : List ℕ) (backing : Reading) (o : Octets bs) (soun
   whole_under s =
       cond_both (eqb n.name 0 || leb backing.sectors s) (Ok (zeros 512)) (passed_up (backing.answer s)) Whole (λ _. whole_zeros) (λ _. whole_passed (backing.answer s) (sound.whole s))
 
+  whole_offset : (at : Option ℕ) (s : ℕ) → Whole (offset_shows n bs backing at s)
+  whole_offset None s = whole_under s
+  whole_offset (Some at) s = whole_load bs (held (at + s % per_cluster n * 512)) o
+
   whole_entry : (e : Entry) (s : ℕ) → Whole (entry_shows n bs backing e s)
-  whole_entry e s =
-      let inner = cond (eqb e.offset 0) (under n backing s) (load bs (held (e.offset + s % per_cluster n * 512)) 512) in
-      cond_both e.zero (Ok (zeros 512)) inner Whole (λ _. whole_zeros)
-      (λ _. cond_both (eqb e.offset 0) (under n backing s) (load bs (held (e.offset + s % per_cluster n * 512)) 512) Whole (λ _. whole_under s) (λ _. whole_load bs (held (e.offset + s % per_cluster n * 512)) o))
+  whole_entry e s = cond_both e.zero (Ok (zeros 512)) (offset_shows n bs backing e.offset s) Whole (λ _. whole_zeros) (λ _. whole_offset e.offset s)
 
   pub whole_shows : (table s : ℕ) → Whole (shows n bs backing table s)
   whole_shows table s = whole_then (guest_entry n bs table (s / per_cluster n)) (λ e. entry_shows n bs backing e s) (λ e. whole_entry e s)

@@ -4,5 +4,6 @@
 mod reading;
 
 pub use reading::{
-    clear, entry_of, guest_clusters, mount_sectors, read_entry, read_guest, read_under, sectors_of,
+    clear, entry_of, guest_clusters, l1_at, l2_place, mount_sectors, read_entry, read_guest,
+    read_under, sectors_of,
 };

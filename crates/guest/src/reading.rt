@@ -2,7 +2,7 @@
 ghost use Rattle.std.specs.Prelude.{◌≡◌, ◌||◌, ◌==◌, nat_le};
 ghost use Rattle.byte_lists.specs.Runs.{zeros};
 ghost use Rattle.fault.specs.Outcomes.{Gives};
-ghost use Rattle.guest.specs.Shown.{guest_sectors, mount_sectors, guest_clusters, l1_place, l2_place, l2_under, guest_entry, under, entry_shows, shows};
+ghost use Rattle.guest.specs.Shown.{guest_sectors, mount_sectors, guest_clusters, l1_at, l2_place, l2_under, guest_entry, under, entry_shows, shows};
 
 use disk::Disk;
 use fault::Fault;
@@ -30,38 +30,40 @@ pub fn guest_clusters(n: Numbers) -> u64
     n.size.div_ceil(n.cluster_size())
 }
 
-// Where a guest cluster's L1 and L2 entries stand.
-fn l1_place(n: Numbers, table: u64, cluster: u64) -> u64
-    ensures value { result ≡ l1_place n table cluster }
+// An entry of the L1 table at `l1`.
+pub fn l1_at<S: Store>(s: &S, n: Numbers, l1: u64, i: u64) -> Result<Entry, Fault>
+    ensures value { result ≡ l1_at n (S.Store.bytes s.now) l1 i }
 {
-    entry_place(table, cluster / n.table_entries())
+    let place = entry_place(l1, i);
+    let word = read_number(s, place)?;
+    judge_l1(n, s.length(), place, word)
 }
 
-fn l2_place(n: Numbers, table: Entry, cluster: u64) -> u64
-    ensures value { result ≡ l2_place n table cluster }
+// Where a guest cluster's entry of the L2 table at `l2` stands.
+pub fn l2_place(n: Numbers, l2: u64, cluster: u64) -> u64
+    ensures value { result ≡ l2_place n l2 cluster }
 {
-    entry_place(table.offset, cluster % n.table_entries())
+    entry_place(l2, cluster % n.table_entries())
 }
 
-fn entry_under<S: Store>(s: &S, n: Numbers, cluster: u64, table: Entry) -> Result<Entry, Fault>
-    ensures value { result ≡ l2_under n (S.Store.bytes s.now) cluster table }
+// The entry of a guest cluster in the L2 table, if there is one.
+fn entry_under<S: Store>(s: &S, n: Numbers, cluster: u64, l2: Option<u64>) -> Result<Entry, Fault>
+    ensures value { result ≡ l2_under n (S.Store.bytes s.now) cluster l2 }
 {
-    if table.offset == 0 {
+    let Some(l2) = l2 else {
         return Ok(Entry::EMPTY);
-    }
-    let place = l2_place(n, table, cluster);
+    };
+    let place = l2_place(n, l2, cluster);
     let word = read_number(s, place)?;
     judge_l2(n, s.length(), place, word)
 }
 
-// The entry of a guest cluster under the L1 table at `table`.
-pub fn entry_of<S: Store>(s: &S, n: Numbers, table: u64, cluster: u64) -> Result<Entry, Fault>
-    ensures value { result ≡ guest_entry n (S.Store.bytes s.now) table cluster }
+// The entry of a guest cluster under the L1 table at `l1`.
+pub fn entry_of<S: Store>(s: &S, n: Numbers, l1: u64, cluster: u64) -> Result<Entry, Fault>
+    ensures value { result ≡ guest_entry n (S.Store.bytes s.now) l1 cluster }
 {
-    let place = l1_place(n, table, cluster);
-    let word = read_number(s, place)?;
-    let first = judge_l1(n, s.length(), place, word)?;
-    entry_under(s, n, cluster, first)
+    let e = l1_at(s, n, l1, cluster / n.table_entries())?;
+    entry_under(s, n, cluster, e.offset)
 }
 
 // A sector of zeros.
@@ -75,7 +77,7 @@ pub fn clear(out: &mut [u8; 512])
 fn nothing_under<B: Disk>(n: Numbers, backing: &B, sector: u64) -> bool
     ensures value { result ≡ (n.name == 0 || nat_le (B.Disk.reading backing.now).sectors sector) }
 {
-    n.name == 0 || backing.sectors() <= sector
+    !n.has_backing() || backing.sectors() <= sector
 }
 
 // What shows through an empty entry.
@@ -109,10 +111,10 @@ pub fn read_entry<S: Store, B: Disk>(
         clear(out);
         return Ok(());
     }
-    if e.offset == 0 {
+    let Some(at) = e.offset else {
         return read_under(n, backing, sector, out);
-    }
-    let place = e.offset.saturating_add(sector % n.cluster_sectors() * 512);
+    };
+    let place = at.saturating_add(sector % n.cluster_sectors() * 512);
     s.read(place, out)
 }
 

@@ -1,5 +1,5 @@
 // A snapshot's sectors, as a mount shows them.
-ghost use Rattle.std.specs.Prelude.{◌≡◌, length};
+ghost use Rattle.std.specs.Prelude.{length};
 ghost use Rattle.fault.specs.Outcomes.{Gives};
 ghost use Rattle.image.specs.Calls.{peek_outcome};
 

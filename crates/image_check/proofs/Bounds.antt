@@ -1,15 +1,15 @@
 -- How much there is to find at most. Assumes nothing.
-use Rattle.std.proofs.Common.{ℕ, ◌+◌, ◌*◌, ◌^◌, ◌≤◌, eqb, min, List, Ok, Err, Result, arith}
+use Rattle.std.proofs.Common.{ℕ, Option, None, Some, ◌+◌, ◌*◌, ◌^◌, ◌≤◌, min, List, Ok, Err, Result, arith}
 use Rattle.std.proofs.lemmas.Nat.{mul-le}
-use Rattle.std.proofs.lemmas.Bool.{cond_both}
 use Rattle.fault.specs.declared.Fault.{Fault}
 use Rattle.format.specs.declared.numbers.Numbers.{Numbers}
 use Rattle.format.specs.declared.entries.Entry.{Entry}
 use Rattle.format.specs.Clusters.{per_table}
 use Rattle.format.proofs.Clusters.{cluster_most}
 use Rattle.tables.specs.Refcounts.{per_block, blocks}
-use Rattle.walk.specs.References.{l1_at, l2_at, block_at, entries_of}
-use Rattle.image_check.specs.Totals.{sum, one, past, past_in, leaked_past, wrong, wrong_in, l2_wrong, branch_wrong, flags}
+use Rattle.guest.specs.Shown.{l1_at}
+use Rattle.walk.specs.References.{l2_at, block_at, entries_of}
+use Rattle.image_check.specs.Totals.{sum, one, past, past_in, leaked_past, wrong, wrong_in, l2_wrong, under_wrong, branch_wrong, flags}
 use Rattle.image_check.proofs.Sums.{sum_most, one_most}
 
 module _ (n : Numbers) (bs : List ℕ) where
@@ -19,8 +19,9 @@ module _ (n : Numbers) (bs : List ℕ) where
   pub in_block_most : (i b : ℕ) → sum (λ j. one (past n bs i b j)) 0 (per_block n) ≤ 2 ^ 20
   in_block_most i b = omega (arith, cluster_most n.bits, sum_most (λ j. one (past n bs i b j)) 1 (λ j. one_most (past n bs i b j)) (per_block n) 0)
 
-  past_in_most : (i : ℕ) (r : Result ℕ Fault) → past_in n bs i r ≤ 2 ^ 20
-  past_in_most i (Ok b) = cond_both (eqb b 0) 0 (sum (λ j. one (past n bs i b j)) 0 (per_block n)) (λ x. x ≤ 2 ^ 20) (λ _. omega arith) (λ _. in_block_most i b)
+  past_in_most : (i : ℕ) (r : Result (Option ℕ) Fault) → past_in n bs i r ≤ 2 ^ 20
+  past_in_most i (Ok None) = omega arith
+  past_in_most i (Ok (Some b)) = in_block_most i b
   past_in_most i (Err f) = omega arith
 
   pub past_most : leaked_past n bs ≤ 2 ^ 44
@@ -35,8 +36,12 @@ module _ (n : Numbers) (bs : List ℕ) where
   pub l2_most : (l2 first : ℕ) → l2_wrong n bs l2 first ≤ 2 ^ 18
   l2_most l2 first = omega (arith, table_most, sum_most (λ g. wrong_in n bs (l2_at n bs l2 g)) 1 (λ g. wrong_most (l2_at n bs l2 g)) (per_table n) first)
 
+  pub under_most : (i : ℕ) (o : Option ℕ) → under_wrong n bs i o ≤ 2 ^ 18
+  under_most i None = omega arith
+  under_most i (Some l2) = l2_most l2 (i * per_table n)
+
   branch_most : (i : ℕ) (r : Result Entry Fault) → branch_wrong n bs i r ≤ 2 ^ 18 + 1
-  branch_most i (Ok e) = cond_both (eqb e.offset 0) 0 (one (wrong n bs e) + l2_wrong n bs e.offset (i * per_table n)) (λ x. x ≤ 2 ^ 18 + 1) (λ _. omega arith) (λ _. omega (arith, one_most (wrong n bs e), l2_most e.offset (i * per_table n)))
+  branch_most i (Ok e) = omega (arith, one_most (wrong n bs e), under_most i e.offset)
   branch_most i (Err f) = omega arith
 
   pub flags_most : flags n bs ≤ 2 ^ 18 * (2 ^ 18 + 1)

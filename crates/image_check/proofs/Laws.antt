@@ -1,6 +1,6 @@
 -- All five totals are zero exactly where the image is lawful. Assumes nothing.
-use Rattle.std.proofs.Common.{◌≡◌, ℕ, ◌+◌, ◌*◌, ◌/◌, ◌<◌, ◌≤◌, Bool, true, false, cond, not, ◌&&◌, eqb, leb, List, length, IfOk, Ok, Err, Result, sym, refl, ap, ◌∙◌, inl, inr, arith, MatchResult}
-use Rattle.std.proofs.lemmas.Bool.{and_parts, and_from, and_left, and_right, and_cases, or_parts, or_from, cond-true, cond-false, cases_eq, cases_Bool, eqb-true, eq-eqb, ne_eqb, eqb-false, ltb-false, le-ltb, le-leb, lt-leb, leb-false, leb-true, not-false, not_from_true, both_ways}
+use Rattle.std.proofs.Common.{◌≡◌, ℕ, Option, None, Some, IfSome, ◌+◌, ◌*◌, ◌/◌, ◌<◌, ◌≤◌, Bool, true, false, cond, not, ◌&&◌, eqb, leb, List, length, IfOk, Ok, Err, Result, sym, refl, ap, ◌∙◌, inl, inr, arith, MatchResult}
+use Rattle.std.proofs.lemmas.Bool.{and_parts, and_from, and_left, and_right, and_cases, or_parts, or_from, cases_Bool, eqb-true, eq-eqb, ne_eqb, eqb-false, ltb-false, le-ltb, le-leb, lt-leb, leb-false, leb-true, both_ways}
 use Rattle.fault.specs.declared.Fault.{Fault}
 use Rattle.fault.proofs.Outcomes.{then_ok, then_is, ok_same}
 use Rattle.byte_lists.specs.Runs.{Octets}
@@ -9,10 +9,11 @@ use Rattle.format.specs.Clusters.{cluster, per_table}
 use Rattle.format.specs.declared.entries.Entry.{Entry}
 use Rattle.tables.specs.Refcounts.{count}
 use Rattle.snapshot.specs.declared.records.Snapshot.{Snapshot}
-use Rattle.walk.specs.References.{l1_at, l2_at, entries_of, references}
+use Rattle.guest.specs.Shown.{l1_at}
+use Rattle.walk.specs.References.{l2_at, entries_of, references}
 use Rattle.walk.specs.Walk.{blocks_judged, walk}
 use Rattle.tally.specs.Tally.{times, kind_from, twice}
-use Rattle.image_check.specs.Totals.{sum, one, clusters_of, held_times, leaks, lacks, repeats, leaked, short, mixed, repeated, wrong, wrong_in, l2_wrong, branch_wrong, flags}
+use Rattle.image_check.specs.Totals.{sum, one, clusters_of, held_times, leaks, lacks, repeats, leaked, short, mixed, repeated, wrong_at, wrong, wrong_in, l2_wrong, under_wrong, branch_wrong, flags}
 use Rattle.image.specs.Calls.{room_judged}
 use Rattle.image_check.specs.Outcome.{totals_of, check_outcome, found_clean}
 use Rattle.image_check.specs.Lawful.{Flag, Lawful}
@@ -25,41 +26,37 @@ right true true e = refl
 right true false e = e
 right false q e = sym e
 
-module _ (n : Numbers) (bs : List ℕ) where
-  flag_right : (e : Entry) → wrong n bs e ≡ false → Flag n bs e
-  flag_right e w some = elim (and_cases (not (eqb e.offset 0)) _ w) [
-    | inl none ↦ absurd (some (eqb-true e.offset 0 (not-false (eqb e.offset 0) none)))
-    | inr same ↦ right e.copied (eqb (count n bs (e.offset / cluster n)) 1) same
-  ]
+not-wrong : (copied q : Bool) → copied ≡ q → cond copied (not q) q ≡ false
+not-wrong true q e = ap not (sym e)
+not-wrong false q e = sym e
 
-  not-wrong : (copied q : Bool) → copied ≡ q → cond copied (not q) q ≡ false
-  not-wrong true q e = ap not (sym e)
-  not-wrong false q e = sym e
+module _ (n : Numbers) (bs : List ℕ) where
+  right_at : (copied : Bool) (o : Option ℕ) → wrong_at n bs copied o ≡ false → IfSome o (λ at. copied ≡ eqb (count n bs (at / cluster n)) 1)
+  right_at copied None w = tt
+  right_at copied (Some at) w = right copied (eqb (count n bs (at / cluster n)) 1) w
+
+  flag_right : (e : Entry) → wrong n bs e ≡ false → Flag n bs e
+  flag_right e w = right_at e.copied e.offset w
+
+  at_right : (copied : Bool) (o : Option ℕ) → IfSome o (λ at. copied ≡ eqb (count n bs (at / cluster n)) 1) → wrong_at n bs copied o ≡ false
+  at_right copied None f = refl
+  at_right copied (Some at) f = not-wrong copied (eqb (count n bs (at / cluster n)) 1) f
 
   right_flag : (e : Entry) → Flag n bs e → wrong n bs e ≡ false
-  right_flag e f = elim (cases_eq e.offset 0) [
-    | inl none ↦ and_left (not (eqb e.offset 0)) _ (not_from_true (eqb e.offset 0) (eq-eqb e.offset 0 none))
-    | inr some ↦ and_right (not (eqb e.offset 0)) _ (not-wrong e.copied (eqb (count n bs (e.offset / cluster n)) 1) (f some))
-  ]
+  right_flag e f = at_right e.copied e.offset f
 
   -- the flags of a branch
-  module _ (i : ℕ) (t : Entry) (some : t.offset ≡ 0 → ⊥) where
-    opened : branch_wrong n bs i (Ok t) ≡ one (wrong n bs t) + l2_wrong n bs t.offset (i * per_table n)
-    opened = cond-false (eqb t.offset 0) 0 (one (wrong n bs t) + l2_wrong n bs t.offset (i * per_table n)) (ne_eqb t.offset 0 some)
-
   l2_zero : (r : Result Entry Fault) → ((e : Entry) → r ≡ Ok e → Flag n bs e) → wrong_in n bs r ≡ 0
   l2_zero (Ok e) h = zero_one (wrong n bs e) (right_flag e (h e refl))
   l2_zero (Err f) h = refl
 
+  under_zero : (i : ℕ) (o : Option ℕ) → ((l2 g : ℕ) (e : Entry) → o ≡ Some l2 → i * per_table n ≤ g → g < i * per_table n + per_table n → l2_at n bs l2 g ≡ Ok e → Flag n bs e) → under_wrong n bs i o ≡ 0
+  under_zero i None low = refl
+  under_zero i (Some l2) low = zero_sum (λ g. wrong_in n bs (l2_at n bs l2 g)) (per_table n) (i * per_table n) (λ g a b. l2_zero (l2_at n bs l2 g) (λ e is. low l2 g e refl a b is))
+
   branch_zero : (i : ℕ) (r : Result Entry Fault) → ((t : Entry) → r ≡ Ok t → Flag n bs t) →
-      ((t e : Entry) (g : ℕ) → r ≡ Ok t → (t.offset ≡ 0 → ⊥) → i * per_table n ≤ g → g < i * per_table n + per_table n → l2_at n bs t.offset g ≡ Ok e → Flag n bs e) → branch_wrong n bs i r ≡ 0
-  branch_zero i (Ok t) top low = elim (cases_eq t.offset 0) [
-    | inl none ↦ cond-true (eqb t.offset 0) 0 _ (eq-eqb t.offset 0 none)
-    | inr some ↦
-        let own = zero_one (wrong n bs t) (right_flag t (top t refl)) in
-        let rest = zero_sum (λ g. wrong_in n bs (l2_at n bs t.offset g)) (per_table n) (i * per_table n) (λ g a b. l2_zero (l2_at n bs t.offset g) (λ e is. low t e g refl some a b is)) in
-        opened i t some ∙ omega (arith, own, rest)
-  ]
+      ((t e : Entry) (l2 g : ℕ) → r ≡ Ok t → t.offset ≡ Some l2 → i * per_table n ≤ g → g < i * per_table n + per_table n → l2_at n bs l2 g ≡ Ok e → Flag n bs e) → branch_wrong n bs i r ≡ 0
+  branch_zero i (Ok t) top low = omega (arith, zero_one (wrong n bs t) (right_flag t (top t refl)), under_zero i t.offset (λ l2 g e some a b is. low t e l2 g refl some a b is))
   branch_zero i (Err f) top low = refl
 
 -- a kind of 1 to 6 that is named at most once
@@ -111,12 +108,12 @@ module _ (n : Numbers) (bs : List ℕ) (rs : List Snapshot) (o : Octets bs) (goo
     branch_none i t lt is = ap (branch_wrong n bs i) (sym is) ∙ sum_zero (λ k. branch_wrong n bs k (l1_at n bs n.l1 k)) (entries_of n) 0 f i (omega arith) (omega arith)
 
     top_flags : (i : ℕ) (e : Entry) → i < entries_of n → l1_at n bs n.l1 i ≡ Ok e → Flag n bs e
-    top_flags i e lt is some = flag_right n bs e (one_zero (wrong n bs e) (omega (arith, opened n bs i e some, branch_none i e lt is))) some
+    top_flags i e lt is = flag_right n bs e (one_zero (wrong n bs e) (omega (arith, branch_none i e lt is)))
 
-    low_flags : (i g : ℕ) (t e : Entry) → i < entries_of n → l1_at n bs n.l1 i ≡ Ok t → (t.offset ≡ 0 → ⊥) → i * per_table n ≤ g → g < i * per_table n + per_table n → l2_at n bs t.offset g ≡ Ok e → Flag n bs e
-    low_flags i g t e lt is some a b found =
-        let rest : l2_wrong n bs t.offset (i * per_table n) ≡ 0 = omega (arith, opened n bs i t some, branch_none i t lt is) in
-        let here = ap (wrong_in n bs) (sym found) ∙ sum_zero (λ k. wrong_in n bs (l2_at n bs t.offset k)) (per_table n) (i * per_table n) rest g a b in
+    low_flags : (i g l2 : ℕ) (t e : Entry) → i < entries_of n → l1_at n bs n.l1 i ≡ Ok t → t.offset ≡ Some l2 → i * per_table n ≤ g → g < i * per_table n + per_table n → l2_at n bs l2 g ≡ Ok e → Flag n bs e
+    low_flags i g l2 t e lt is some a b found =
+        let rest : l2_wrong n bs l2 (i * per_table n) ≡ 0 = omega (arith, ap (under_wrong n bs i) some, branch_none i t lt is) in
+        let here = ap (wrong_in n bs) (sym found) ∙ sum_zero (λ k. wrong_in n bs (l2_at n bs l2 k)) (per_table n) (i * per_table n) rest g a b in
         flag_right n bs e (one_zero (wrong n bs e) here)
 
   pub clean_lawful : found_clean (totals_of n bs rs) ≡ true → Lawful n bs rs
@@ -153,7 +150,7 @@ module _ (n : Numbers) (bs : List ℕ) (rs : List Snapshot) (o : Octets bs) (goo
       let r : repeated n bs rs refs ≡ 0 = zero_all (λ h. repeats (kind_from h 0 refs) (held_times refs h) (twice n bs rs h)) (λ h lt. or_from (twice n bs rs h) _ (w.reached h lt) (few (kind_from h 0 refs) (held_times refs h) (λ p q. omega (arith, w.named h lt p q)))) in
       let f : flags n bs ≡ 0 =
       zero_sum (λ i. branch_wrong n bs i (l1_at n bs n.l1 i)) (entries_of n) 0
-      (λ i a b. branch_zero n bs i (l1_at n bs n.l1 i) (λ t is. w.flags1 i t (omega arith) is) (λ t e g is some low high found. w.flags2 i g t e (omega arith) is some low high found)) in
+      (λ i a b. branch_zero n bs i (l1_at n bs n.l1 i) (λ t is. w.flags1 i t (omega arith) is) (λ t e l2 g is some low high found. w.flags2 i g l2 t e (omega arith) is some low high found)) in
       and_from (eqb (leaked n bs refs) 0) _ (eq-eqb (leaked n bs refs) 0 l)
       (and_from (eqb (short n bs refs) 0) _ (eq-eqb (short n bs refs) 0 s)
       (and_from (eqb (mixed n bs refs) 0) _ (eq-eqb (mixed n bs refs) 0 m)

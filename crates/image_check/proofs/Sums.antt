@@ -5,7 +5,10 @@ use Rattle.std.specs.List.{sum_by, range_with_len, fold}
 use Rattle.std.proofs.lemmas.List.Sums.{sum_by-cons}
 use Rattle.std.specs.Iterator.{Drains}
 use Rattle.std.specs.Iterator.Runs.{EachRunFrom}
-use Rattle.std.proofs.lemmas.Iterator.{YieldsList}
+use Rattle.std.specs.Fn.{Called, Mut}
+use Rattle.std.specs.declared.iter.Map.{Map}
+use Rattle.std.specs.Iterator.Adapters.{map_source, map_callee}
+use Rattle.std.proofs.lemmas.Iterator.{YieldsList, YieldsList-from_map, maps}
 use Rattle.std.proofs.lemmas.Iterator.Consumers.{sum_by_from_yields_List, fits_by_from_yields_list}
 use Rattle.std.specs.Int.{from_bool}
 use Rattle.std.proofs.lemmas.Bool.{cases_eq}
@@ -25,12 +28,16 @@ pub sum_most : (f : ℕ → ℕ) (m : ℕ) → ((j : ℕ) → f j ≤ m) → (k 
 sum_most f m h zero i = omega arith
 sum_most f m h (suc k) i = omega (arith, h i, sum_most f m h k (i + 1), suc-mul k m)
 
--- a chain over a range that adds up: what it gives, and that it fits
-module _ {S : Type 0} {steps : S → Option ℕ → S → Type 0} (f : ℕ → ℕ) (i k : ℕ) (s : S) (road : YieldsList steps (λ x. x) s (map f (range_with_len i k))) where
-  pub sum_gives : (r : ℕ) → ((xs : List ℕ) × (⊤ → Drains steps s xs) × (r ≡ fold (λ a x. a + x) 0 xs)) → r ≡ sum f i k
+-- a function mapped over numbers in a row, added up: what it gives, and that it fits
+module _ {S F : Type 0} {steps : S → Option ℕ → S → Type 0} {g : Mut F (ℕ × Unit {0}) ℕ} {c : F} (f : ℕ → ℕ) (i k : ℕ) (s : Map S F) (row : YieldsList steps (λ x. x) (map_source s) (range_with_len i k))
+    (callee : map_callee s ≡ c) (gives : (x r : ℕ) (q : F) → Called g c (x, tt) r q → (q ≡ c) × (r ≡ f x)) where
+  road : YieldsList (maps steps g) (λ r. r) s (map f (range_with_len i k))
+  road = YieldsList-from_map g f row callee gives
+
+  pub sum_gives : (r : ℕ) → ((xs : List ℕ) × (⊤ → Drains (maps steps g) s xs) × (r ≡ fold (λ a x. a + x) 0 xs)) → r ≡ sum f i k
   sum_gives r ran = sum_by_from_yields_List f (range_with_len i k) s r ran road ∙ sum_range f k i
 
-  pub sum_fits : (top : ℕ) → sum f i k < top → EachRunFrom steps s (λ p. fold (λ a x. a + x) 0 p.items < top)
+  pub sum_fits : (top : ℕ) → sum f i k < top → EachRunFrom (maps steps g) s (λ p. fold (λ a x. a + x) 0 p.items < top)
   sum_fits top few = fits_by_from_yields_list f (range_with_len i k) s top road (omega (arith, sum_range f k i))
 
 -- of equal numbers

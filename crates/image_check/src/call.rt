@@ -1,5 +1,5 @@
 // The call: judge all, count all, compare, and mark the mount.
-ghost use Rattle.std.specs.Prelude.{◌≡◌, ℕ, ◌^◌, ◌≤◌, Bool, true, List, map, length, IfOk, Ok, Err, MatchResult};
+ghost use Rattle.std.specs.Prelude.{◌≡◌, ◌^◌, ◌≤◌, true, List, map, length, IfOk, Ok, Err, MatchResult};
 ghost use Rattle.format.specs.declared.numbers.Numbers.{Numbers};
 ghost use Rattle.snapshot.specs.declared.records.Snapshot.{Snapshot};
 ghost use Rattle.walk.specs.References.{references};

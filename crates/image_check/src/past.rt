@@ -1,5 +1,5 @@
 // Counts past the store's end, in every block that the refcount table names.
-ghost use Rattle.std.specs.Prelude.{◌≡◌, ◌+◌, ◌*◌, ◌^◌, ◌<◌, ◌≤◌, Bool};
+ghost use Rattle.std.specs.Prelude.{◌≡◌, ◌^◌, ◌<◌, ◌≤◌};
 ghost use Rattle.tables.specs.Refcounts.{per_block};
 ghost use Rattle.walk.specs.References.{block_at};
 ghost use Rattle.image_check.specs.Totals.{clusters_of, past as past_by, past_in, leaked_past, one, sum};
@@ -14,7 +14,7 @@ pub(crate) fn clusters<S: Store>(s: &S, n: Numbers) -> u64
     ensures value { result ≡ clusters_of n (S.Store.bytes s.now) }
     ensures most { result ≤ 2 ^ 55 }
 {
-    s.length() / n.cluster_size()
+    n.clusters_in(s.length())
 }
 
 // Whether the j-th count of the i-th block, which lies at `block`, is one past the end.
@@ -38,8 +38,8 @@ fn past_named<S: Store>(s: &S, n: Numbers, i: u32) -> u64
     ensures value { result ≡ past_in n (S.Store.bytes s.now) i (block_at n (S.Store.bytes s.now) i) }
 {
     match block_at(s, n, i as u64) {
-        Ok(0) | Err(_) => 0,
-        Ok(block) => past_in(s, n, i, block),
+        Ok(Some(block)) => past_in(s, n, i, block),
+        Ok(None) | Err(_) => 0,
     }
 }
 

@@ -1,8 +1,8 @@
 // The totals: each cluster's word held against its stored count.
-ghost use Rattle.std.specs.Prelude.{◌≡◌, ℕ, ◌+◌, ◌/◌, ◌%◌, ◌^◌, ◌≤◌, Bool, length, ◌==◌, nat_eq};
+ghost use Rattle.std.specs.Prelude.{◌≡◌, ◌/◌, ◌%◌, ◌^◌, ◌≤◌, length, ◌==◌, nat_eq};
 ghost use Rattle.tables.specs.Refcounts.{count as count_of};
 ghost use Rattle.tally.specs.Words.{kind_in, mark_in};
-ghost use Rattle.image_check.specs.Totals.{one, sum_by, leaks, lacks, repeats};
+ghost use Rattle.image_check.specs.Totals.{sum_by, leaks, lacks, repeats};
 
 use format::Numbers;
 use store::Store;

@@ -6,19 +6,6 @@ use snapshot::judge_record;
 use std::fs;
 use store::FlatStore;
 
-fn backing<'a>(n: &Numbers, image: &'a [u8]) -> &'a [u8] {
-    let from = n.name.min(image.len() as u64) as usize;
-    let to = n
-        .name
-        .saturating_add(n.letters as u64)
-        .min(image.len() as u64) as usize;
-    if n.name == 0 || to < from {
-        b"none"
-    } else {
-        &image[from..to]
-    }
-}
-
 // The id of each snapshot, from record to record.
 fn list(rt: &HostRuntime, n: Numbers, image: &mut [u8]) -> anyhow::Result<()> {
     let used = image.len();
@@ -51,7 +38,8 @@ fn examine(rt: &HostRuntime, name: &str) -> anyhow::Result<()> {
                 ..
             } = n;
             let cluster = n.cluster_size();
-            let under = String::from_utf8_lossy(rt.alloc(), backing(&n, image))?;
+            let backing = n.backing_name(image).unwrap_or(b"none");
+            let under = String::from_utf8_lossy(rt.alloc(), backing)?;
             println!(rt;
                 "{name}: version {version}, {size} bytes, clusters of {cluster}, backing {under}, {snapshots} snapshots"
             )?;

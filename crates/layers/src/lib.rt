@@ -2,13 +2,11 @@
 #![tactic(auto)]
 
 mod links;
-mod names;
 mod opened;
 mod reads;
 mod stop;
 
 pub use links::{LONGEST, Link};
-pub use names::backing_name;
 pub use opened::{How, Opened, Under, load_alone, open, refused};
 pub use reads::{Front, failed, read_front, read_whole};
 pub use stop::Stop;

@@ -1,8 +1,8 @@
 // The files of a chain, found by their headers before any is read whole.
-use crate::names::{backing_name, below};
 use crate::reads::{Front, failed, read_front};
 use crate::stop::Stop;
 use format::judge;
+use listing::joined;
 use std::alloc::Global;
 use std::io;
 use std::path::Path;
@@ -32,13 +32,21 @@ fn unread(heap: Global, links: &[Link], path: &str, e: io::Error) -> Stop {
     Stop::said(format!(in heap; "{path}: {e}; it is the backing file of {asker}"))
 }
 
+// The path of the file below, from the name's bytes.
+fn below(heap: Global, path: &str, name: &[u8]) -> Result<String, Stop> {
+    let text = std::str::from_utf8(name).map_err(|_| {
+        Stop::said(format!(in heap; "{path}: the backing name is no UTF-8 text"))
+    })?;
+    Ok(joined(heap, path, text)?)
+}
+
 // The path of the file below an image; a bad header leads to none, and is the answer of every read that comes to it.
 fn under_of(heap: Global, path: &str, front: &Front) -> Result<Option<String>, Stop> {
     let shown = front.shown();
     let Ok(n) = judge(shown, front.filled()) else {
         return Ok(None);
     };
-    let Some(name) = backing_name(&n, shown) else {
+    let Some(name) = n.backing_name(shown) else {
         return Ok(None);
     };
     Ok(Some(below(heap, path, name)?))

@@ -1,7 +1,7 @@
 -- A word leads to what its entry shows. Assumes nothing.
-use Rattle.std.proofs.Common.{◌≡◌, ℕ, ◌+◌, ◌-◌, ◌*◌, ◌/◌, ◌%◌, ◌^◌, ◌<◌, ◌≤◌, min, Bool, true, false, cond, not, eqb, List, length, Ok, sym, refl, ap, ◌∙◌, inl, inr, add-mul, div-add-mod', div-mul-le_self, arith}
+use Rattle.std.proofs.Common.{◌≡◌, ℕ, Option, None, Some, ◌+◌, ◌-◌, ◌*◌, ◌/◌, ◌%◌, ◌^◌, ◌<◌, ◌≤◌, min, Bool, true, false, cond, not, eqb, List, length, Ok, refl, ap, ◌∙◌, add-mul, div-add-mod', div-mul-le_self, arith}
 use Rattle.std.proofs.lemmas.Nat.{le-div}
-use Rattle.std.proofs.lemmas.Bool.{and_parts, cases_eq, cond-false, eq-eqb, ne_eqb, leb-true, eqb-true}
+use Rattle.std.proofs.lemmas.Bool.{and_parts, cond-false, ne_eqb, leb-true, eqb-true}
 use Rattle.byte_lists.specs.Runs.{zeros}
 use Rattle.store.specs.Stores.{load}
 use Rattle.disk.specs.Readings.{Reading}
@@ -11,9 +11,9 @@ use Rattle.format.proofs.Clusters.{cluster_least}
 use Rattle.format.specs.declared.entries.Entry.{Entry}
 use Rattle.format.specs.Entries.{placed}
 use Rattle.store.specs.Words.{held}
-use Rattle.guest.specs.Shown.{under, entry_shows}
+use Rattle.guest.specs.Shown.{offset_shows, entry_shows}
 use Rattle.guest.proofs.Entered.{Placed}
-use Rattle.mapping.specs.Maps.{word_of}
+use Rattle.mapping.specs.Maps.{offset_word, word_of}
 use Rattle.mapping.specs.Copies.{word_shows}
 
 -- a whole cluster of a store of at most 2 to the 28 clusters
@@ -27,9 +27,9 @@ module _ (c o len : ℕ) (pos : 0 < c) (whole : o % c ≡ 0) (inside : o + c ≤
   host_is = omega (arith, div-add-mod' o c)
 
 module _ (n : Numbers) (bs : List ℕ) (backing : Reading) (s : ℕ) (few : length bs / cluster n ≤ 2 ^ 28) where
-  data_shows : (o : ℕ) → (o ≡ 0 → ⊥) → o % cluster n ≡ 0 → o + cluster n ≤ length bs →
+  data_shows : (o : ℕ) → o % cluster n ≡ 0 → o + cluster n ≤ length bs →
       word_shows n bs backing (2 ^ 31 + min (2 ^ 30 - 1) (o / cluster n)) s ≡ load bs (held (o + s % per_cluster n * 512)) 512
-  data_shows o some whole inside =
+  data_shows o whole inside =
       let c = cluster n in
       let pos : 0 < c = omega (arith, cluster_least n.bits) in
       let host = host_few c o (length bs) pos whole inside few in
@@ -41,21 +41,13 @@ module _ (n : Numbers) (bs : List ℕ) (backing : Reading) (s : ℕ) (few : leng
       ∙ cond-false (eqb (w / 2 ^ 30) 1) _ _ (ne_eqb (w / 2 ^ 30) 1 (λ e. omega arith))
       ∙ ap (λ k. load bs (held (k + s % per_cluster n * 512)) 512) place
 
-  parts_show : (z : Bool) (o : ℕ) (copied : Bool) → placed n (length bs) o copied ≡ true →
-      word_shows n bs backing (cond z (2 ^ 30) (cond (eqb o 0) 0 (2 ^ 31 + min (2 ^ 30 - 1) (o / cluster n)))) s
-      ≡ cond z (Ok (zeros 512)) (cond (eqb o 0) (under n backing s) (load bs (held (o + s % per_cluster n * 512)) 512))
+  parts_show : (z : Bool) (o : Option ℕ) (copied : Bool) → placed n (length bs) o copied ≡ true →
+      word_shows n bs backing (cond z (2 ^ 30) (offset_word n o)) s ≡ cond z (Ok (zeros 512)) (offset_shows n bs backing o s)
   parts_show true o copied h = refl
-  parts_show false o copied h = elim (cases_eq o 0) [
-    | inl e ↦
-        ap (λ b. word_shows n bs backing (cond b 0 (2 ^ 31 + min (2 ^ 30 - 1) (o / cluster n))) s) (eq-eqb o 0 e)
-        ∙ sym (ap (λ b. cond b (under n backing s) (load bs (held (o + s % per_cluster n * 512)) 512)) (eq-eqb o 0 e))
-    | inr ne ↦
-        let is = sym (cond-false (eqb o 0) (not copied) _ (ne_eqb o 0 ne)) ∙ h in
-        let p = and_parts (eqb (o % cluster n) 0) _ is in
-        ap (λ b. word_shows n bs backing (cond b 0 (2 ^ 31 + min (2 ^ 30 - 1) (o / cluster n))) s) (ne_eqb o 0 ne)
-        ∙ data_shows o ne (eqb-true (o % cluster n) 0 p.0) (leb-true (o + cluster n) (length bs) p.1)
-        ∙ sym (ap (λ b. cond b (under n backing s) (load bs (held (o + s % per_cluster n * 512)) 512)) (ne_eqb o 0 ne))
-  ]
+  parts_show false None copied h = refl
+  parts_show false (Some o) copied h =
+      let p = and_parts (eqb (o % cluster n) 0) _ (and_parts (not (eqb o 0)) _ h).1 in
+      data_shows o (eqb-true (o % cluster n) 0 p.0) (omega (arith, leb-true (o + 1 * cluster n) (length bs) p.1))
 
   pub word_leads : (e : Entry) → Placed n (length bs) e → word_shows n bs backing (word_of n e) s ≡ entry_shows n bs backing e s
   word_leads e h = parts_show e.zero e.offset e.copied h

@@ -3,7 +3,7 @@
 --   words_of        the words of the first k guest clusters
 --   table_for       the L1 table that an id names: none the live one
 --   map_outcome     the list after map, or the fault; further words stay
-use Rattle.std.specs.Prelude.{ℕ, ◌+◌, ◌-◌, ◌/◌, ◌^◌, min, cond, List, ◌++◌, map, length, drop, Ok, Err, Result, ◌==◌, nat_le}
+use Rattle.std.specs.Prelude.{ℕ, Option, None, Some, ◌+◌, ◌-◌, ◌/◌, ◌^◌, min, cond, List, ◌++◌, map, length, drop, Ok, Err, Result, ◌==◌, nat_le}
 use Rattle.std.specs.List.{range_with_len}
 use Rattle.fault.specs.declared.Fault.{Fault}
 use Rattle.fault.specs.declared.Layer.TheVariants.{Call}
@@ -18,8 +18,12 @@ use Rattle.guest.specs.Shown.{guest_entry, guest_clusters}
 use Rattle.image.specs.Calls.{room_judged}
 
 -- the host cluster is held at 30 bits: a good image has at most 2 to the 28
+abbrev pub offset_word : Numbers → Option ℕ → ℕ
+offset_word n None = 0
+offset_word n (Some at) = 2 ^ 31 + min (2 ^ 30 - 1) (at / cluster n)
+
 abbrev pub word_of : Numbers → Entry → ℕ
-word_of n e = cond e.zero (2 ^ 30) (cond (e.offset == 0) 0 (2 ^ 31 + min (2 ^ 30 - 1) (e.offset / cluster n)))
+word_of n e = cond e.zero (2 ^ 30) (offset_word n e.offset)
 
 -- of an entry that was judged good
 abbrev pub word_in : Numbers → Result Entry Fault → ℕ

@@ -20,11 +20,11 @@ fn kind_of(n: Numbers, e: Entry) -> Kind
     if e.zero {
         return Kind::Zeros;
     }
-    if e.offset == 0 {
+    let Some(at) = e.offset else {
         return Kind::Empty;
-    }
+    };
     // a good image has fewer than 2^30 clusters
-    let host = (e.offset / n.cluster_size()).min((1 << 30) - 1);
+    let host = (at / n.cluster_size()).min((1 << 30) - 1);
     Kind::Data(host as u32)
 }
 

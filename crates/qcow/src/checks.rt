@@ -46,7 +46,7 @@ pub(crate) fn run(rt: &HostRuntime, given: Vec<String>) -> Result<(), Stop> {
     };
     let mut m = Mount::new(load_alone(rt, path.as_str())?, ZerosDisk::new(0));
     let n = images::granted(heap, paths, m.numbers())?;
-    let clusters = m.store.length() / n.cluster_size();
+    let clusters = n.clusters_in(m.store.length());
     if clusters > MANY && rt.stderr().is_terminal() {
         eprintln!(rt; "checking {clusters} clusters")?;
     }

@@ -2,14 +2,14 @@
 use crate::args::{Arguments, message};
 use fault::{Fault, Refusal};
 use format::{Numbers, judge};
-use layers::{Stop, backing_name, failed, read_front};
+use layers::{Stop, failed, read_front};
 use listing::shown;
 use std::alloc::{AllocError, Global};
 
 pub(crate) const USAGE: &str = "qcow info FILE";
 
 fn backing(heap: Global, n: &Numbers, front: &[u8]) -> Result<String, AllocError> {
-    match backing_name(n, front) {
+    match n.backing_name(front) {
         None => String::from_str(heap, "none"),
         Some(name) => shown(heap, name),
     }

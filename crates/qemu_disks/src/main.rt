@@ -7,7 +7,7 @@ use format::Numbers;
 use guest::{guest_clusters, sectors_of};
 use image::Mount;
 use image_check::check;
-use layers::{How, Opened, Stop, backing_name, open, read_front, refused};
+use layers::{How, Opened, Stop, open, read_front, refused};
 use mapping::{copy_out, map};
 use snapshot::judge_records;
 use std::alloc::Global;
@@ -44,10 +44,8 @@ fn examine<S: Store>(rt: &HostRuntime, name: &str, s: &S, n: Numbers) -> Result<
     let Numbers { version, size, .. } = n;
     let cluster = n.cluster_size();
     let front = read_front(rt, name)?;
-    let under = match backing_name(&n, front.shown()) {
-        Some(bytes) => String::from_utf8_lossy(heap, bytes)?,
-        None => String::from_str(heap, "none")?,
-    };
+    let backing = n.backing_name(front.shown()).unwrap_or(b"none");
+    let under = String::from_utf8_lossy(heap, backing)?;
     let ids = ids(heap, s, n)?;
     println!(rt;
         "{name}: version {version}, {size} bytes, clusters of {cluster}, backing {under}, snapshots{ids}"
@@ -61,7 +59,7 @@ fn judge_counts<S: Store, B: Disk>(
     m: &mut Mount<S, B>,
     n: Numbers,
 ) -> Result<(), Stop> {
-    let clusters = m.store.length() / n.cluster_size();
+    let clusters = n.clusters_in(m.store.length());
     let mut words = vec![in rt.alloc(); 0u32; clusters as usize]?;
     match check(m, words.as_mut_slice()) {
         Ok(_) if m.clean => println!(rt; "  check: clean")?,

@@ -1,5 +1,5 @@
 // Lists of calls to a store, and the law that two stores of equal bytes and limit answer them alike.
-ghost use Rattle.std.specs.Prelude.{◌≡◌, ◌/◌, Bool, true, length, Decides};
+ghost use Rattle.std.specs.Prelude.{◌≡◌, ◌/◌, true, length, Decides};
 ghost use Rattle.store.specs.Stores.{load};
 ghost use Rattle.store.specs.Calls.{answer, left as left_by, answers, leaves};
 

@@ -1,9 +1,9 @@
 // The refcount table: its blocks, judged, and the counts in them.
-ghost use Rattle.std.specs.Prelude.{◌≡◌, ◌^◌, ◌<◌, ◌≤◌};
+ghost use Rattle.std.specs.Prelude.{◌≡◌, ◌^◌, ◌≤◌};
 ghost use Rattle.tables.specs.Refcounts.{per_block, blocks as blocks_of, block_place, block_entry, block_at, count_in, count as count_of};
 
 use fault::{Fault, Layer, Reason};
-use format::{Numbers, entry_place};
+use format::{Numbers, entry_place, leads};
 use store::{Store, read_number};
 
 // The counts of a block.
@@ -23,13 +23,14 @@ pub fn blocks(n: Numbers) -> u32
     n.extent.min(64) * n.table_entries() as u32
 }
 
-// Judges an entry of the refcount table that stands at `place` of a store of this length.
-pub fn judge_block(n: Numbers, length: u64, place: u64, word: u64) -> Result<u64, Fault>
+// Judges an entry of the refcount table that stands at `place` of a store of this length, and says where it leads.
+pub fn judge_block(n: Numbers, length: u64, place: u64, word: u64) -> Result<Option<u64>, Fault>
     ensures value { result ≡ block_entry n length place word }
 {
-    let placed = word == 0 || n.table_good(length, word, 1);
+    let block = leads(word);
+    let placed = block.is_none_or(|b| n.table_good(length, b, 1));
     Layer::Tables.demand(placed, Reason::BadEntry, place)?;
-    Ok(word)
+    Ok(block)
 }
 
 // Where the entry of a block stands.
@@ -39,14 +40,15 @@ pub fn block_place(n: Numbers, block: u64) -> u64
     entry_place(n.refcounts, block)
 }
 
-// The entry of a block as it stands; past the table's reach there is none.
-pub fn block_at<S: Store>(s: &S, n: Numbers, block: u64) -> Result<u64, Fault>
+// Where the entry of a block leads as it stands; past the table's reach there is no block.
+pub fn block_at<S: Store>(s: &S, n: Numbers, block: u64) -> Result<Option<u64>, Fault>
     ensures value { result ≡ block_at n (S.Store.bytes s.now) block }
 {
     if block < blocks(n) as u64 {
-        read_number(s, block_place(n, block))
+        let word = read_number(s, block_place(n, block))?;
+        Ok(leads(word))
     } else {
-        Ok(0)
+        Ok(None)
     }
 }
 
@@ -54,11 +56,10 @@ pub fn block_at<S: Store>(s: &S, n: Numbers, block: u64) -> Result<u64, Fault>
 pub fn count_in<S: Store>(s: &S, n: Numbers, host: u64) -> Result<u16, Fault>
     ensures value { result ≡ count_in n (S.Store.bytes s.now) host }
 {
-    let block = block_at(s, n, host / block_counts(n))?;
-    if block == 0 {
-        return Ok(0);
+    match block_at(s, n, host / block_counts(n))? {
+        Some(block) => read_number(s, block.saturating_add(host % block_counts(n) * 2)),
+        None => Ok(0),
     }
-    read_number(s, block.saturating_add(host % block_counts(n) * 2))
 }
 
 // The same where nothing refuses, as in a table that was judged good.

@@ -1,5 +1,5 @@
 -- The words of an image that was walked are its tally, and the marks tell which clusters a table reaches twice. Assumes nothing.
-use Rattle.std.proofs.Common.{◌≡◌, ℕ, zero, suc, ◌+◌, ◌*◌, ◌/◌, ◌^◌, ◌<◌, min, Bool, true, false, cond, ◌||◌, eqb, leb, ◌⊎◌, List, [], ◌∷◌, ◌++◌, map, length, get_or, Ok, Err, Result, sym, refl, ap, ◌∙◌, subst, inl, inr, append_assoc, add-zero, arith}
+use Rattle.std.proofs.Common.{◌≡◌, ℕ, Option, None, Some, zero, suc, ◌+◌, ◌*◌, ◌/◌, ◌^◌, ◌<◌, min, Bool, true, false, cond, ◌||◌, eqb, leb, ◌⊎◌, List, [], ◌∷◌, ◌++◌, map, length, get_or, Ok, Err, Result, sym, refl, ap, ◌∙◌, subst, inl, inr, append_assoc, add-zero, arith}
 use Rattle.std.proofs.lemmas.List.FromFn.{fill_by_all}
 use Rattle.std.proofs.lemmas.List.{get_or-map, length-map}
 use Rattle.std.proofs.lemmas.Bool.{cond-true, cond_both, le-leb}
@@ -11,7 +11,8 @@ use Rattle.tables.specs.Refcounts.{blocks}
 use Rattle.snapshot.specs.declared.records.Snapshot.{Snapshot}
 use Rattle.walk.specs.declared.kinds.Kind.{Kind}
 use Rattle.walk.specs.declared.kinds.Kind.TheVariants.{Header, RefcountTable, LiveL1, SnapshotL1, L2, Data}
-use Rattle.walk.specs.References.{Ref, kind_number, named, gather, entry_refs, l2_at, l2_refs, branch, branch_refs, l1_at, tree_refs, table_refs, block_at, named_block, block_refs, record_refs, l1_refs, snapshot_refs, references, entries_of}
+use Rattle.guest.specs.Shown.{l1_at}
+use Rattle.walk.specs.References.{Ref, kind_number, named, gather, offset_refs, entry_refs, l2_at, l2_named, branch, branch_refs, tree_refs, table_refs, block_at, named_block, block_refs, record_refs, l1_refs, snapshot_refs, references, entries_of}
 use Rattle.tally.specs.Tally.{times, kind_from, tally, tally_word, any_twice, twice}
 use Rattle.tally.specs.Words.{packed, mark_in, unmarked}
 use Rattle.tally.specs.Filling.{Note, Forget, all_touched, walked, all_walked, fixed_refs, filled}
@@ -19,18 +20,24 @@ use Rattle.tally.proofs.Marks.{Fits, plain, word_mark, unmarked_is, mark_most}
 use Rattle.tally.proofs.Notes.{at_host, length-touched, all_at, noted_all, forgot_all, mark_from, back, taken_back, Deep, Flat, mark_deep, mark_flat, times-append, kind_append, deep_append, flat_append}
 
 -- what an L1 table leads to is reached from it
+data_deep : (n : Numbers) (o : Option ℕ) → Deep (offset_refs n Data o)
+data_deep n None = tt
+data_deep n (Some at) = (omega arith, tt)
+
 entry_deep : (n : Numbers) (r : Result Entry Fault) → Deep (entry_refs n r)
-entry_deep n (Ok e) = cond_both (eqb e.offset 0) [] (named n Data e.offset ∷ []) Deep (λ _. tt) (λ _. (omega arith, tt))
+entry_deep n (Ok e) = data_deep n e.offset
 entry_deep n (Err f) = tt
 
 gather_deep : (f : ℕ → List Ref) (k i : ℕ) → ((j : ℕ) → Deep (f j)) → Deep (gather f i k)
 gather_deep f zero i h = tt
 gather_deep f (suc k) i h = deep_append (f i) (gather f (i + 1) k) (h i) (gather_deep f k (i + 1) h)
 
+named_deep : (n : Numbers) (bs : List ℕ) (i : ℕ) (o : Option ℕ) → Deep (l2_named n bs i o)
+named_deep n bs i None = tt
+named_deep n bs i (Some l2) = (omega arith, gather_deep (λ g. entry_refs n (l2_at n bs l2 g)) _ _ (λ g. entry_deep n (l2_at n bs l2 g)))
+
 branch_deep : (n : Numbers) (bs : List ℕ) (i : ℕ) (r : Result Entry Fault) → Deep (branch n bs i r)
-branch_deep n bs i (Ok e) =
-    cond_both (eqb e.offset 0) [] (named n L2 e.offset ∷ l2_refs n bs e.offset (i * _)) Deep (λ _. tt)
-    (λ _. (omega arith, gather_deep (λ g. entry_refs n (l2_at n bs e.offset g)) _ _ (λ g. entry_deep n (l2_at n bs e.offset g))))
+branch_deep n bs i (Ok e) = named_deep n bs i e.offset
 branch_deep n bs i (Err f) = tt
 
 pub tree_deep : (n : Numbers) (bs : List ℕ) (l1 : ℕ) → Deep (tree_refs n bs l1)
@@ -41,8 +48,9 @@ gather-flat : (f : ℕ → List Ref) (k i : ℕ) → ((j : ℕ) → Flat (f j)) 
 gather-flat f zero i h = tt
 gather-flat f (suc k) i h = flat_append (f i) (gather f (i + 1) k) (h i) (gather-flat f k (i + 1) h)
 
-block_flat : (n : Numbers) (r : Result ℕ Fault) → Flat (named_block n r)
-block_flat n (Ok b) = cond_both (eqb b 0) [] _ Flat (λ _. tt) (λ _. (omega arith, tt))
+block_flat : (n : Numbers) (r : Result (Option ℕ) Fault) → Flat (named_block n r)
+block_flat n (Ok None) = tt
+block_flat n (Ok (Some b)) = (omega arith, tt)
 block_flat n (Err f) = tt
 
 fixed_flat : (n : Numbers) (bs : List ℕ) → Flat (fixed_refs n bs)

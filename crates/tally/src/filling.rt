@@ -8,11 +8,12 @@ ghost use Rattle.walk.specs.declared.kinds.Kind.TheVariants.{RefcountTable};
 ghost use Rattle.tally.specs.Filling.{Pass, Note, Forget, word_after, touched, all_touched, walked, all_walked, filled};
 
 use crate::words::{forget, note};
-use format::Numbers;
+use format::{Entry, Numbers};
+use guest::l1_at;
 use snapshot::Snapshot;
 use store::Store;
 use tables::blocks;
-use walk::{Kind, block_at, l1_at, l1_entries, l2_at};
+use walk::{Kind, block_at, l1_entries, l2_at};
 
 // What a pass over a tree does with the word of each reference.
 trait Step {
@@ -61,10 +62,14 @@ fn touch<P: Step>(n: Numbers, kind: Kind, offset: u64, words: &mut [u32])
 fn touch_entry<P: Step, S: Store>(s: &S, n: Numbers, l2: u64, g: u64, words: &mut [u32])
     ensures after { words.new ≡ all_touched P.pass (entry_refs n (l2_at n (S.Store.bytes s.now) l2 g)) words.old }
 {
-    if let Ok(e) = l2_at(s, n, l2, g)
-        && e.offset != 0
+    if let Ok(
+        Entry {
+            offset: Some(at),
+            ..
+        },
+    ) = l2_at(s, n, l2, g)
     {
-        touch::<P>(n, Kind::Data, e.offset, words);
+        touch::<P>(n, Kind::Data, at, words);
     }
 }
 
@@ -72,9 +77,8 @@ fn touch_entry<P: Step, S: Store>(s: &S, n: Numbers, l2: u64, g: u64, words: &mu
 fn touch_l2<P: Step, S: Store>(s: &S, n: Numbers, l2: u64, i: u32, words: &mut [u32])
     ensures after { words.new ≡ all_touched P.pass (l2_refs n (S.Store.bytes s.now) l2 (i * per_table n)) words.old }
 {
-    let first = i as u64 * n.table_entries();
-    let end = first + n.table_entries();
-    for g in first..end {
+    let under = n.clusters_under(i);
+    for g in under.start..under.end {
         touch_entry::<P, _>(s, n, l2, g, words);
     }
 }
@@ -82,11 +86,15 @@ fn touch_l2<P: Step, S: Store>(s: &S, n: Numbers, l2: u64, i: u32, words: &mut [
 fn touch_branch<P: Step, S: Store>(s: &S, n: Numbers, l1: u64, i: u32, words: &mut [u32])
     ensures after { words.new ≡ all_touched P.pass (branch_refs n (S.Store.bytes s.now) l1 i) words.old }
 {
-    if let Ok(e) = l1_at(s, n, l1, i as u64)
-        && e.offset != 0
+    if let Ok(
+        Entry {
+            offset: Some(l2),
+            ..
+        },
+    ) = l1_at(s, n, l1, i as u64)
     {
-        touch::<P>(n, Kind::L2, e.offset, words);
-        touch_l2::<P, _>(s, n, e.offset, i, words);
+        touch::<P>(n, Kind::L2, l2, words);
+        touch_l2::<P, _>(s, n, l2, i, words);
     }
 }
 
@@ -126,10 +134,8 @@ fn touch_blocks<S: Store>(s: &S, n: Numbers, words: &mut [u32])
 fn touch_block<S: Store>(s: &S, n: Numbers, i: u64, words: &mut [u32])
     ensures after { words.new ≡ all_touched Note (named_block n (block_at n (S.Store.bytes s.now) i)) words.old }
 {
-    if let Ok(offset) = block_at(s, n, i)
-        && offset != 0
-    {
-        touch::<Noting>(n, Kind::Block, offset, words);
+    if let Ok(Some(block)) = block_at(s, n, i) {
+        touch::<Noting>(n, Kind::Block, block, words);
     }
 }
 

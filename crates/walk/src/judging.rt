@@ -4,9 +4,10 @@ ghost use Rattle.format.specs.Clusters.{per_table};
 ghost use Rattle.snapshot.specs.All.{kept};
 ghost use Rattle.walk.specs.Walk.{blocks_judged, l2_judged, branch_judged, tree_judged, trees_judged, walk as walk_of};
 
-use crate::places::{block_at, l1_at, l1_entries, l2_at};
+use crate::places::{block_at, l1_entries, l2_at};
 use fault::Fault;
 use format::Numbers;
+use guest::l1_at;
 use snapshot::{Records, Snapshot, judge_records};
 use store::Store;
 use tables::blocks;
@@ -24,9 +25,8 @@ fn judge_blocks<S: Store>(s: &S, n: Numbers) -> Result<(), Fault>
 fn judge_l2_table<S: Store>(s: &S, n: Numbers, l2: u64, i: u32) -> Result<(), Fault>
     ensures value { result ≡ l2_judged n (S.Store.bytes s.now) l2 (i * per_table n) }
 {
-    let first = i as u64 * n.table_entries();
-    let end = first + n.table_entries();
-    for g in first..end {
+    let under = n.clusters_under(i);
+    for g in under.start..under.end {
         l2_at(s, n, l2, g)?;
     }
     Ok(())
@@ -35,11 +35,10 @@ fn judge_l2_table<S: Store>(s: &S, n: Numbers, l2: u64, i: u32) -> Result<(), Fa
 fn judge_branch<S: Store>(s: &S, n: Numbers, l1: u64, i: u32) -> Result<(), Fault>
     ensures value { result ≡ branch_judged n (S.Store.bytes s.now) l1 i }
 {
-    let e = l1_at(s, n, l1, i as u64)?;
-    if e.offset == 0 {
-        return Ok(());
+    match l1_at(s, n, l1, i as u64)?.offset {
+        Some(l2) => judge_l2_table(s, n, l2, i),
+        None => Ok(()),
     }
-    judge_l2_table(s, n, e.offset, i)
 }
 
 fn judge_tree<S: Store>(s: &S, n: Numbers, l1: u64) -> Result<(), Fault>

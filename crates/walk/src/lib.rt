@@ -7,4 +7,4 @@ mod places;
 
 pub use judging::walk;
 pub use kinds::Kind;
-pub use places::{block_at, l1_at, l1_entries, l2_at};
+pub use places::{block_at, l1_entries, l2_at};

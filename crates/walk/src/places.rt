@@ -1,10 +1,10 @@
 // The entries that the walk meets, read and judged.
-ghost use Rattle.std.specs.Prelude.{◌≡◌, ◌+◌, ◌*◌, ◌^◌, ◌≤◌};
-ghost use Rattle.walk.specs.References.{l1_at, l2_judged_at, l2_at, block_at, entries_of};
+ghost use Rattle.std.specs.Prelude.{◌≡◌, ◌^◌, ◌≤◌};
+ghost use Rattle.walk.specs.References.{l2_judged_at, l2_at, block_at, entries_of};
 
 use fault::{Fault, Layer, Reason};
-use format::{Entry, Numbers, entry_place, judge_l1, judge_l2};
-use guest::guest_clusters;
+use format::{Entry, Numbers, judge_l2, judge_plain};
+use guest::{guest_clusters, l2_place};
 use store::{Store, read_number};
 use tables::{block_place, judge_block};
 
@@ -14,14 +14,6 @@ pub fn l1_entries(n: Numbers) -> u32
     ensures most { result ≤ 2 ^ 18 }
 {
     n.entries.min(n.table_entries() as u32)
-}
-
-pub fn l1_at<S: Store>(s: &S, n: Numbers, l1: u64, i: u64) -> Result<Entry, Fault>
-    ensures value { result ≡ l1_at n (S.Store.bytes s.now) l1 i }
-{
-    let place = entry_place(l1, i);
-    let word = read_number(s, place)?;
-    judge_l1(n, s.length(), place, word)
 }
 
 // Past the guest's end an entry must be 0; a compressed one is refused as such there too.
@@ -37,8 +29,7 @@ fn judge_walked(
     if cluster < guest_clusters(n) {
         return judge_l2(n, length, place, word);
     }
-    let plain = word / (1 << 62) % 2 != 1;
-    Layer::Tables.demand(plain, Reason::Compressed, place)?;
+    judge_plain(place, word)?;
     Layer::Tables.demand(word == 0, Reason::BadEntry, place)?;
     Ok(Entry::EMPTY)
 }
@@ -46,12 +37,12 @@ fn judge_walked(
 pub fn l2_at<S: Store>(s: &S, n: Numbers, l2: u64, cluster: u64) -> Result<Entry, Fault>
     ensures value { result ≡ l2_at n (S.Store.bytes s.now) l2 cluster }
 {
-    let place = entry_place(l2, cluster % n.table_entries());
+    let place = l2_place(n, l2, cluster);
     let word = read_number(s, place)?;
     judge_walked(n, s.length(), place, cluster, word)
 }
 
-pub fn block_at<S: Store>(s: &S, n: Numbers, i: u64) -> Result<u64, Fault>
+pub fn block_at<S: Store>(s: &S, n: Numbers, i: u64) -> Result<Option<u64>, Fault>
     ensures value { result ≡ block_at n (S.Store.bytes s.now) i }
 {
     let place = block_place(n, i);

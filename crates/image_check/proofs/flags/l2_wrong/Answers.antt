@@ -1,8 +1,8 @@
-use Rattle.std.proofs.Common.{rules, ℕ, ◌+◌, ◌*◌, ◌^◌, ap, ◌∙◌, arith}
-use Rattle.std.proofs.lemmas.Iterator.{YieldsList-from_map, YieldsList-from_range}
+use Rattle.std.proofs.Common.{rules, ℕ, ◌+◌, ◌*◌, ◌^◌, ◌∙◌, arith}
+use Rattle.std.proofs.lemmas.Iterator.{YieldsList-from_range}
 use Rattle.format.specs.Clusters.{per_table}
 use Rattle.walk.specs.References.{l2_at}
-use Rattle.image_check.specs.Totals.{sum, wrong_in}
+use Rattle.image_check.specs.Totals.{wrong_in}
 use Rattle.image_check.proofs.Sums.{sum_gives, sum_fits}
 use Rattle.image_check.proofs.Bounds.{l2_most}
 use Rattle.image_check.proofs.flags.l2_wrong.Goals as goal
@@ -11,20 +11,16 @@ pub sum-requires-clause-fits : goal.sum-requires-clause-fits
 sum-requires-clause-fits g c =
     let bs = g.S.Store.bytes c.args.s.now in
     let f : ℕ → ℕ = λ x. wrong_in c.args.n bs (l2_at c.args.n bs c.args.l2 x) in
-    let first = c.args.i * c.table_entries.result in
-    let k = c.table_entries-2.result in
-    let same = ap (sum f first) c.table_entries-2.ensures.value in
-    sum_fits f first k c.map.result (YieldsList-from_map _ f (YieldsList-from_range first (first + k) k c.map.ensures.source (omega arith)) c.map.ensures.closure (λ x r q k. search rules)) (2 ^ 64)
-    (omega (arith, same, l2_most c.args.n bs c.args.l2 first))
+    let first = c.args.i * per_table c.args.n in
+    let k = per_table c.args.n in
+    let range = c.map.ensures.source ∙ (λ j. record { start = c.clusters_under.ensures.start j; end = c.clusters_under.ensures.end j }) in
+    sum_fits f first k c.map.result (YieldsList-from_range first (first + k) k range (omega arith)) c.map.ensures.closure (λ x r q p. search rules) (2 ^ 64) (omega (arith, l2_most c.args.n bs c.args.l2 first))
 
 pub returns : goal.returns
 returns g c =
     let bs = g.S.Store.bytes c.args.s.now in
     let f : ℕ → ℕ = λ x. wrong_in c.args.n bs (l2_at c.args.n bs c.args.l2 x) in
-    let first = c.args.i * c.table_entries.result in
-    let k = c.table_entries-2.result in
-    let from = ap (λ t. c.args.i * t) c.table_entries.ensures.value in
-    record {
-      value = sum_gives f first k c.map.result (YieldsList-from_map _ f (YieldsList-from_range first (first + k) k c.map.ensures.source (omega arith)) c.map.ensures.closure (λ x r q k. search rules)) c.sum.result c.sum.ensures.ran
-          ∙ ap (sum f first) c.table_entries-2.ensures.value ∙ ap (λ a. sum f a (per_table c.args.n)) from;
-    }
+    let first = c.args.i * per_table c.args.n in
+    let k = per_table c.args.n in
+    let range = c.map.ensures.source ∙ (λ j. record { start = c.clusters_under.ensures.start j; end = c.clusters_under.ensures.end j }) in
+    record { value = sum_gives f first k c.map.result (YieldsList-from_range first (first + k) k range (omega arith)) c.map.ensures.closure (λ x r q p. search rules) c.sum.result c.sum.ensures.ran }

@@ -1,5 +1,5 @@
 use Rattle.std.proofs.Common.{rules, ℕ, ◌^◌, ap, ◌∙◌, arith}
-use Rattle.std.proofs.lemmas.Iterator.{YieldsList-from_map, YieldsList-from_range}
+use Rattle.std.proofs.lemmas.Iterator.{YieldsList-from_range}
 use Rattle.walk.specs.References.{block_at}
 use Rattle.image_check.specs.Totals.{sum, past_in}
 use Rattle.image_check.proofs.Sums.{sum_gives, sum_fits}
@@ -12,11 +12,11 @@ sum-requires-clause-fits g c =
     let f : ℕ → ℕ = λ i. past_in c.args.n bs i (block_at c.args.n bs i) in
     let k = c.blocks-2.result in
     let same = ap (sum f 0) c.blocks-2.ensures.value in
-    sum_fits f 0 k c.map.result (YieldsList-from_map _ f (YieldsList-from_range 0 k k c.map.ensures.source (omega arith)) c.map.ensures.closure (λ x r q k. search rules)) (2 ^ 64) (omega (arith, same, past_most c.args.n bs))
+    sum_fits f 0 k c.map.result (YieldsList-from_range 0 k k c.map.ensures.source (omega arith)) c.map.ensures.closure (λ x r q p. search rules) (2 ^ 64) (omega (arith, same, past_most c.args.n bs))
 
 pub returns : goal.returns
 returns g c =
     let bs = g.S.Store.bytes c.args.s.now in
     let f : ℕ → ℕ = λ i. past_in c.args.n bs i (block_at c.args.n bs i) in
     let k = c.blocks-2.result in
-    record { value = sum_gives f 0 k c.map.result (YieldsList-from_map _ f (YieldsList-from_range 0 k k c.map.ensures.source (omega arith)) c.map.ensures.closure (λ x r q k. search rules)) c.sum.result c.sum.ensures.ran ∙ ap (sum f 0) c.blocks-2.ensures.value }
+    record { value = sum_gives f 0 k c.map.result (YieldsList-from_range 0 k k c.map.ensures.source (omega arith)) c.map.ensures.closure (λ x r q p. search rules) c.sum.result c.sum.ensures.ran ∙ ap (sum f 0) c.blocks-2.ensures.value }
