@@ -29,7 +29,7 @@ pub struct Run {
 fn goes_on(before: u32, word: u32) -> bool
     ensures value { result ≡ goes_on before word }
 {
-    if before < 1 << 31 {
+    if before < DATA {
         before == word
     } else {
         before as u64 + 1 == word as u64
