@@ -1,28 +1,19 @@
 // Images in files: qemu-img may end a file inside its last cluster, which is then taken as filled up with zeros.
-ghost use Rattle.std.specs.Prelude.{◌≡◌, ◌<◌, true, false, length, MatchOption};
+ghost use Rattle.std.specs.Prelude.{◌≡◌, true, false, length, MatchOption};
 ghost use Rattle.byte_lists.specs.Runs.{run};
-ghost use Rattle.format.specs.Header.{filled_up, filled_length, name_in};
+ghost use Rattle.format.specs.Header.{filled_length, name_in};
 
 use crate::numbers::{Numbers, cluster_of};
 use byte_lists::{number_at, within};
-
-fn fill_up(n: u64, c: u64) -> u64
-    requires { 0 < c }
-    ensures value { result ≡ filled_up n c }
-{
-    if n % c == 0 {
-        n
-    } else {
-        n.saturating_add(c - n % c)
-    }
-}
 
 // The length of a file with its last cluster filled up; a file that claims no good cluster size is left as it is.
 pub fn filled_length(first: &[u8], length: u64) -> u64
     ensures value { result ≡ filled_length first.now length }
 {
     match number_at::<u32>(first, 20) {
-        Some(bits) if 9 <= bits && bits <= 21 => fill_up(length, cluster_of(bits)),
+        Some(bits) if 9 <= bits && bits <= 21 => length
+            .checked_next_multiple_of(cluster_of(bits))
+            .unwrap_or(u64::MAX),
         _ => length,
     }
 }
