@@ -16,7 +16,7 @@ use std::alloc::{AllocError, Global};
 use std::fs;
 
 // What is said besides the image's path.
-#[derive(Clone, Copy)]
+#[derive(Clone, Copy, Default)]
 pub struct How<'a> {
     // stands for the backing name in the top image's header
     pub backing: Option<&'a str>,

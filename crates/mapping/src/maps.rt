@@ -32,10 +32,7 @@ fn kind_of(n: Numbers, e: Entry) -> Kind
 fn kind_at<S: Store>(s: &S, n: Numbers, l1: u64, cluster: u64) -> Kind
     ensures value { word_saying result ≡ word_in n (guest_entry n (S.Store.bytes s.now) l1 cluster) }
 {
-    match entry_of(s, n, l1, cluster) {
-        Ok(e) => kind_of(n, e),
-        Err(_) => Kind::Empty,
-    }
+    entry_of(s, n, l1, cluster).map_or(Kind::Empty, |e| kind_of(n, e))
 }
 
 fn fill_words<S: Store>(s: &S, n: Numbers, l1: u64, words: &mut [u32])

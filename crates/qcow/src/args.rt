@@ -53,16 +53,15 @@ impl Arguments {
         let mut options = BTreeMap::new(heap);
         let mut switches = BTreeSet::new(heap);
         let mut words = Vec::new(heap);
-        let mut name: Option<String> = None;
-        for word in given {
-            if let Some(option) = name {
-                options.insert(option, word)?;
-                name = None;
-                continue;
-            }
-            name = None;
+        let mut given = given.into_iter();
+        while let Some(word) = given.next() {
             match sort_of(word.as_str(), valued, plain) {
-                Sort::Valued => name = Some(word),
+                Sort::Valued => {
+                    let Some(value) = given.next() else {
+                        return Err(message(heap, "a value is missing behind", word.as_str()));
+                    };
+                    options.insert(word, value)?;
+                }
                 Sort::Switch => {
                     switches.insert(word)?;
                 }
@@ -70,14 +69,20 @@ impl Arguments {
                 Sort::Unknown => return Err(message(heap, "unknown option", word.as_str())),
             }
         }
-        if let Some(option) = name {
-            return Err(message(heap, "a value is missing behind", option.as_str()));
-        }
         Ok(Arguments {
             options,
             switches,
             words,
         })
+    }
+
+    // The words, if there are as many as the task takes.
+    pub(crate) fn exactly<const N: usize>(
+        &self,
+        heap: Global,
+        usage: &str,
+    ) -> Result<&[String; N], Stop> {
+        <&[String; N]>::try_from(self.words.as_slice()).map_err(|_| message(heap, "usage:", usage))
     }
 
     // The value of an option, the last one given.

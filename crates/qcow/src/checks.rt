@@ -41,9 +41,7 @@ pub(crate) fn run(rt: &HostRuntime, given: Vec<String>) -> Result<(), Stop> {
     let heap = rt.alloc();
     let args = Arguments::new(heap, given, &[], &["--tally"])?;
     let paths = args.words.as_slice();
-    let [path] = paths else {
-        return Err(message(heap, "usage:", USAGE));
-    };
+    let [path] = args.exactly::<1>(heap, USAGE)?;
     let mut m = Mount::new(load_alone(rt, path.as_str())?, ZerosDisk::new(0));
     let n = images::granted(heap, paths, m.numbers())?;
     let clusters = n.clusters_in(m.store.length());

@@ -82,10 +82,7 @@ fn make(rt: &HostRuntime, path: &str, wish: &Wish) -> Result<Vec<u8>, Stop> {
 pub(crate) fn run(rt: &HostRuntime, given: Vec<String>) -> Result<(), Stop> {
     let heap = rt.alloc();
     let args = Arguments::new(heap, given, VALUED, &[])?;
-    let words = args.words.as_slice();
-    let [path, size] = words else {
-        return Err(message(heap, "usage:", USAGE));
-    };
+    let [path, size] = args.exactly::<2>(heap, USAGE)?;
     let wish = Wish {
         version: version_of(heap, args.option("--compat"))?,
         bits: bits_of(heap, args.option("--cluster-bits"))?,

@@ -60,8 +60,7 @@ fn copy_all<S: Store, B: Disk>(work: &Work, m: &Mount<S, B>, file: &mut File) ->
     let heap = work.rt.alloc();
     let mut piece = vec![in heap; 0u8; PIECE as usize * 512]?;
     let mut progress = Progress::new(work.rt, work.sectors);
-    for i in 0..work.sectors.div_ceil(PIECE) {
-        let first = i.saturating_mul(PIECE);
+    for first in (0..work.sectors).step_by(PIECE as usize) {
         let count = work.sectors.saturating_sub(first).min(PIECE);
         let end = (count as usize * 512).min(piece.len());
         let bytes = &mut piece.as_mut_slice()[0..end];
@@ -89,9 +88,7 @@ fn write_new<S: Store, B: Disk>(work: &Work, m: &Mount<S, B>, file: &mut File) -
 pub(crate) fn run(rt: &HostRuntime, given: Vec<String>) -> Result<(), Stop> {
     let heap = rt.alloc();
     let args = Arguments::new(heap, given, images::VALUED, &[])?;
-    let [path, out] = args.words.as_slice() else {
-        return Err(message(heap, "usage:", USAGE));
-    };
+    let [path, out] = args.exactly::<2>(heap, USAGE)?;
     files::judge_new(rt, out.as_str())?;
     let Opened { top, under, paths } = open(rt, path.as_str(), images::how(&args))?;
     let m = Mount::new(top, under.disk());

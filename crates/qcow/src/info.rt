@@ -47,10 +47,7 @@ fn refuse(rt: &HostRuntime, path: &str, f: Fault) -> Result<(), Stop> {
 pub(crate) fn run(rt: &HostRuntime, given: Vec<String>) -> Result<(), Stop> {
     let heap = rt.alloc();
     let args = Arguments::new(heap, given, &[], &[])?;
-    let words = args.words.as_slice();
-    let [path] = words else {
-        return Err(message(heap, "usage:", USAGE));
-    };
+    let [path] = args.exactly::<1>(heap, USAGE)?;
     let front = read_front(rt, path.as_str()).map_err(|e| failed(heap, path.as_str(), e))?;
     match judge(front.shown(), front.filled()) {
         Ok(numbers) => print(rt, &numbers, front.shown()),

@@ -48,9 +48,7 @@ pub(crate) fn run(rt: &HostRuntime, given: Vec<String>) -> Result<(), Stop> {
     let heap = rt.alloc();
     let args = Arguments::new(heap, given, &["-l"], &["--words"])?;
     let paths = args.words.as_slice();
-    let [path] = paths else {
-        return Err(message(heap, "usage:", USAGE));
-    };
+    let [path] = args.exactly::<1>(heap, USAGE)?;
     // the tables alone say where clusters lie, so no backing file is asked for
     let m = Mount::new(load_alone(rt, path.as_str())?, ZerosDisk::new(0));
     let n = images::granted(heap, paths, m.numbers())?;

@@ -29,9 +29,7 @@ fn print_hex(rt: &HostRuntime, sector: u64, buffer: &[u8]) -> Result<(), Stop> {
 pub(crate) fn run(rt: &HostRuntime, given: Vec<String>) -> Result<(), Stop> {
     let heap = rt.alloc();
     let args = Arguments::new(heap, given, images::VALUED, &["--hex"])?;
-    let [path, sector] = args.words.as_slice() else {
-        return Err(message(heap, "usage:", USAGE));
-    };
+    let [path, sector] = args.exactly::<2>(heap, USAGE)?;
     let sector = sector_of(heap, sector.as_str())?;
     let Opened { top, under, paths } = open(rt, path.as_str(), images::how(&args))?;
     let m = Mount::new(top, under.disk());

@@ -8,7 +8,7 @@ use layers::{Stop, load_alone};
 use listing::shown;
 use snapshot::{Snapshot, judge_records};
 use std::alloc::Global;
-use store::Store;
+use store::{Store, read_number};
 
 pub(crate) const USAGE: &str = "qcow snapshot -l FILE";
 
@@ -21,9 +21,8 @@ struct Row {
 
 // When the snapshot was taken.
 fn date_in<S: Store>(s: &S, r: &Snapshot) -> Result<Date, Fault> {
-    let mut seconds = [0u8; 4];
-    s.read(r.place.saturating_add(16), &mut seconds)?;
-    Ok(date_of(u32::from_be_bytes(seconds)))
+    let seconds = read_number(s, r.place.saturating_add(16))?;
+    Ok(date_of(seconds))
 }
 
 // The name, which stands behind the extra data and the id.
@@ -67,9 +66,7 @@ pub(crate) fn run(rt: &HostRuntime, given: Vec<String>) -> Result<(), Stop> {
     let heap = rt.alloc();
     let args = Arguments::new(heap, given, &[], &["-l"])?;
     let paths = args.words.as_slice();
-    let [path] = paths else {
-        return Err(message(heap, "usage:", USAGE));
-    };
+    let [path] = args.exactly::<1>(heap, USAGE)?;
     if !args.switch("-l") {
         return Err(message(heap, "usage:", USAGE));
     }

@@ -15,11 +15,6 @@ use std::fs;
 use std::process::ExitCode;
 use store::Store;
 
-const PLAIN: How = How {
-    backing: None,
-    spoiled: None,
-};
-
 // The ids of the snapshots.
 fn ids<S: Store>(heap: Global, s: &S, n: Numbers) -> Result<String, Stop> {
     let records = match judge_records(s, n) {
@@ -149,7 +144,7 @@ fn differs(heap: Global, raw: &str, equal: u64, sectors: u64) -> Stop {
 // A disk of an image, `-` for the live one, and the file with what qemu-img read from it.
 fn hold(rt: &HostRuntime, name: &str, id: &str, raw: &str) -> Result<(), Stop> {
     let heap = rt.alloc();
-    let Opened { top, under, paths } = open(rt, name, PLAIN)?;
+    let Opened { top, under, paths } = open(rt, name, How::default())?;
     let mut m = Mount::new(top, under.disk());
     let n = m.numbers().map_err(|f| refused(heap, paths.as_slice(), f))?;
     if id == "-" {
