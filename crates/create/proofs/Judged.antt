@@ -31,6 +31,10 @@ pub record Fitting (n : Numbers) : Type 0 where
   pub extent : n.extent < 256 ^ 4
   pub snapshots : n.snapshots < 256 ^ 4
   pub records : n.records < 256 ^ 8
+  pub incompatible : n.incompatible < 256 ^ 8
+  pub autoclear : n.autoclear < 256 ^ 8
+  pub order : n.order < 256 ^ 4
+  pub header : n.header < 256 ^ 4
 
 module _ (n : Numbers) (name : List ℕ) (fits : n.name + length name ≤ 4 * cluster n) where
   least : 512 ≤ cluster n
@@ -94,8 +98,8 @@ module _ (n : Numbers) (name : List ℕ) (fits : n.name + length name ≤ 4 * cl
   since x y d p q (inl two) = cond-false (eqb n.version 3) x d (ne_eqb n.version 3 (omega arith)) ∙ q two
   since x y d p q (inr three) = cond-true (eqb n.version 3) x d (eq-eqb n.version 3 three) ∙ p three
 
-  pub created-fields : Fitting n → (n.version ≡ 2) ⊎ (n.version ≡ 3) → (n.version ≡ 2 → (n.incompatible ≡ 0) × ((n.autoclear ≡ 0) × ((n.order ≡ 4) × (n.header ≡ 72)))) → n.incompatible < 256 ^ 8 → n.autoclear < 256 ^ 8 → n.order < 256 ^ 4 → n.header < 256 ^ 4 → fields (created n name) ≡ n
-  created-fields fit kind two i-fit a-fit o-fit h-fit =
+  pub created-fields : Fitting n → (n.version ≡ 2) ⊎ (n.version ≡ 3) → (n.version ≡ 2 → (n.incompatible ≡ 0) × ((n.autoclear ≡ 0) × ((n.order ≡ 4) × (n.header ≡ 72)))) → fields (created n name) ≡ n
+  created-fields fit kind two =
       let e-version = field_shared 1 (omega arith) (omega arith) fit.version in
       let e-name = field_shared 2 (omega arith) (omega arith) fit.name in
       let e-letters = field_shared 3 (omega arith) (omega arith) fit.letters in
@@ -108,10 +112,10 @@ module _ (n : Numbers) (name : List ℕ) (fits : n.name + length name ≤ 4 * cl
       let e-extent = field_shared 10 (omega arith) (omega arith) fit.extent in
       let e-snapshots = field_shared 11 (omega arith) (omega arith) fit.snapshots in
       let e-records = field_shared 12 (omega arith) (omega arith) fit.records in
-      let e-incompatible = ap (λ v. cond (eqb v 3) (number (created n name) 72 8) 0) e-version ∙ since (number (created n name) 72 8) n.incompatible 0 (λ three. field_late 0 (omega arith) three (omega arith) i-fit) (λ e. sym (two e).0) kind in
-      let e-autoclear = ap (λ v. cond (eqb v 3) (number (created n name) 88 8) 0) e-version ∙ since (number (created n name) 88 8) n.autoclear 0 (λ three. field_late 1 (omega arith) three (omega arith) a-fit) (λ e. sym (two e).1.0) kind in
-      let e-order = ap (λ v. cond (eqb v 3) (number (created n name) 96 4) 4) e-version ∙ since (number (created n name) 96 4) n.order 4 (λ three. field_late 2 (omega arith) three (omega arith) o-fit) (λ e. sym (two e).1.1.0) kind in
-      let e-header = ap (λ v. cond (eqb v 3) (number (created n name) 100 4) 72) e-version ∙ since (number (created n name) 100 4) n.header 72 (λ three. field_late 3 (omega arith) three (omega arith) h-fit) (λ e. sym (two e).1.1.1) kind in
+      let e-incompatible = ap (λ v. cond (eqb v 3) (number (created n name) 72 8) 0) e-version ∙ since (number (created n name) 72 8) n.incompatible 0 (λ three. field_late 0 (omega arith) three (omega arith) fit.incompatible) (λ e. sym (two e).0) kind in
+      let e-autoclear = ap (λ v. cond (eqb v 3) (number (created n name) 88 8) 0) e-version ∙ since (number (created n name) 88 8) n.autoclear 0 (λ three. field_late 1 (omega arith) three (omega arith) fit.autoclear) (λ e. sym (two e).1.0) kind in
+      let e-order = ap (λ v. cond (eqb v 3) (number (created n name) 96 4) 4) e-version ∙ since (number (created n name) 96 4) n.order 4 (λ three. field_late 2 (omega arith) three (omega arith) fit.order) (λ e. sym (two e).1.1.0) kind in
+      let e-header = ap (λ v. cond (eqb v 3) (number (created n name) 100 4) 72) e-version ∙ since (number (created n name) 100 4) n.header 72 (λ three. field_late 3 (omega arith) three (omega arith) fit.header) (λ e. sym (two e).1.1.1) kind in
       λ k. record {
         version = e-version k;
         name = e-name k;

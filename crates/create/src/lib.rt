@@ -1,10 +1,10 @@
 // Creating an image: four clusters, for every version, cluster size, guest size and backing name that fits.
 #![tactic(auto)]
 
-ghost use Rattle.std.specs.Prelude.{◌≡◌, ℕ, ◌+◌, ◌*◌, ◌^◌, ◌≤◌, true, length, Ok, OnOk};
+ghost use Rattle.std.specs.Prelude.{◌≡◌, ℕ, ◌+◌, ◌*◌, ◌^◌, ◌≤◌, length, Ok, OnOk};
 ghost use Rattle.fault.specs.Outcomes.{Gives};
 ghost use Rattle.format.specs.Clusters.{cluster};
-ghost use Rattle.format.specs.Header.{header as header_in, size_good};
+ghost use Rattle.format.specs.Header.{header as header_in};
 ghost use Rattle.create.specs.Laid.{laid, laid_field};
 ghost use Rattle.create.specs.Create.{wanted as wanted_of, header_length, name_place, name_fits, room, create_judged, shared_fields, late_fields, header_fields, table_fields, created, create_outcome};
 
@@ -190,7 +190,7 @@ fn name_place(version: u32, letters: u32) -> u64
 // The numbers of the image that is asked for. What 32 bits cannot hold is cut short, and then refused.
 fn wanted(version: u32, bits: u32, size: u64, letters: usize) -> Numbers
     ensures judged { (len limit : ℕ) → create_judged result len limit ≡ create_judged (wanted_of version bits size letters) len limit }
-    ensures granted { size_good (wanted_of version bits size letters) ≡ true → name_fits (wanted_of version bits size letters) ≡ true → result ≡ wanted_of version bits size letters }
+    ensures granted { (len limit : ℕ) → create_judged result len limit ≡ Ok tt → result ≡ wanted_of version bits size letters }
 {
     let letters = letters.min(u32::MAX as usize) as u32;
     let mut n = Numbers {
