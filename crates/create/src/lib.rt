@@ -6,7 +6,7 @@ ghost use Rattle.fault.specs.Outcomes.{Gives};
 ghost use Rattle.format.specs.Clusters.{cluster};
 ghost use Rattle.format.specs.Header.{header as header_in};
 ghost use Rattle.create.specs.Laid.{laid, laid_field};
-ghost use Rattle.create.specs.Create.{wanted as wanted_of, header_length, name_place, name_fits, room, create_judged, shared_fields, late_fields, header_fields, table_fields, created, create_outcome};
+ghost use Rattle.create.specs.Create.{wanted as wanted_of, header_length, name_place, name_fits, create_judged, shared_fields, late_fields, header_fields, table_fields, created, create_outcome};
 
 use byte_lists::Field;
 use fault::{Fault, Layer, Reason};

@@ -1,5 +1,5 @@
 // All snapshot records of an image, judged in their order; no two have the same id.
-ghost use Rattle.std.specs.Prelude.{◌≡◌, ◌+◌, ◌<◌, ◌≤◌, Bool, not, [], ◌∷◌, ◌++◌, length, is_some, IfSome, Ok, Err, MatchResult};
+ghost use Rattle.std.specs.Prelude.{◌≡◌, ◌+◌, ◌<◌, ◌≤◌, not, length, is_some, IfSome, Ok, Err, MatchResult};
 ghost use Rattle.std.specs.Str.{bytes_eq};
 ghost use Rattle.snapshot.specs.Records.{id_of, record_good};
 ghost use Rattle.snapshot.specs.All.{position, named as named_by, kept as kept_of, records as records_of, id_judged, table};
