@@ -21,14 +21,6 @@ impl<'a> RawDisk<'a> {
     }
 }
 
-// The begun sectors of a list.
-fn sectors_in(list: &[u8]) -> u64
-    ensures value { result ≡ sectors_of (length list.now) }
-    ensures most { result ≤ 2 ^ 55 }
-{
-    (list.len() as u64).div_ceil(512)
-}
-
 // The sector of a list that has it.
 fn copy_sector(list: &[u8], sector: u64, out: &mut [u8; 512])
     requires { sector * 512 ≤ length list.now }
@@ -48,11 +40,11 @@ impl Disk for RawDisk<'_> {
     ghost sound = { raw_sound };
 
     fn sectors(&self) -> u64 {
-        sectors_in(self.list)
+        (self.list.len() as u64).div_ceil(512)
     }
 
     fn read_sector(&self, sector: u64, out: &mut [u8; 512]) -> Result<(), Fault> {
-        let within = sector < sectors_in(self.list);
+        let within = sector < self.sectors();
         Layer::Disk.demand(within, Reason::PastDisk, sector)?;
         copy_sector(self.list, sector, out);
         Ok(())
