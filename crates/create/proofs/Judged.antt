@@ -1,6 +1,6 @@
 -- What create made is judged good, with the numbers asked for. Assumes nothing.
-use Rattle.std.proofs.Common.{◌≡◌, ℕ, ◌+◌, ◌*◌, ◌^◌, ◌<◌, ◌≤◌, true, cond, eqb, ◌⊎◌, List, [], length, get_or, drop, sym, ap, ◌∙◌, inl, inr, zero-add, arith}
-use Rattle.std.proofs.lemmas.Bool.{eq-eqb, ne_eqb, cond-true, cond-false}
+use Rattle.std.proofs.Common.{◌≡◌, ℕ, ◌+◌, ◌*◌, ◌^◌, ◌<◌, ◌≤◌, true, cond, eqb, ◌⊎◌, List, [], length, get_or, drop, sym, ap, ◌∙◌, zero-add, arith, rules, tests}
+use Rattle.std.proofs.lemmas.Bool.{eq-eqb, eqb-true, cond-true, cond_both}
 use Rattle.byte_lists.specs.Runs.{run}
 use Rattle.byte_lists.specs.Numbers.{be, be_bytes, number, spell}
 use Rattle.byte_lists.specs.Fields.{field, spelled}
@@ -31,6 +31,10 @@ pub record Fitting (n : Numbers) : Type 0 where
   pub extent : n.extent < 256 ^ 4
   pub snapshots : n.snapshots < 256 ^ 4
   pub records : n.records < 256 ^ 8
+  pub incompatible : n.incompatible < 256 ^ 8
+  pub autoclear : n.autoclear < 256 ^ 8
+  pub order : n.order < 256 ^ 4
+  pub header : n.header < 256 ^ 4
 
 module _ (n : Numbers) (name : List ℕ) (fits : n.name + length name ≤ 4 * cluster n) where
   least : 512 ≤ cluster n
@@ -89,44 +93,46 @@ module _ (n : Numbers) (name : List ℕ) (fits : n.name + length name ≤ 4 * cl
   created-opens =
       opens_from (created n name) (omega (arith, length-created n name fits, least)) (byte_at 0 (omega arith)) (byte_at 1 (omega arith)) (byte_at 2 (omega arith)) (byte_at 3 (omega arith))
 
-  -- what stands for a field of version 3
-  since : (x y d : ℕ) → (n.version ≡ 3 → x ≡ y) → (n.version ≡ 2 → d ≡ y) → (n.version ≡ 2) ⊎ (n.version ≡ 3) → cond (eqb n.version 3) x d ≡ y
-  since x y d p q (inl two) = cond-false (eqb n.version 3) x d (ne_eqb n.version 3 (omega arith)) ∙ q two
-  since x y d p q (inr three) = cond-true (eqb n.version 3) x d (eq-eqb n.version 3 three) ∙ p three
+  module _ (fit : Fitting n) (kind : (n.version ≡ 2) ⊎ (n.version ≡ 3)) where
+    -- a field that only version 3 has, or what stands for it in version 2
+    since : (x y d : ℕ) → (n.version ≡ 3 → x ≡ y) → (n.version ≡ 2 → d ≡ y) → cond (eqb (number (created n name) 4 4) 3) x d ≡ y
+    since x y d late early =
+        ap (λ v. cond (eqb v 3) x d) (field_shared 1 (omega arith) (omega arith) fit.version)
+        ∙ cond_both (eqb n.version 3) x d (λ z. z ≡ y) (λ e. late (eqb-true n.version 3 e)) (λ e. early (search (rules, tests)))
 
-  pub created-fields : Fitting n → (n.version ≡ 2) ⊎ (n.version ≡ 3) → (n.version ≡ 2 → (n.incompatible ≡ 0) × ((n.autoclear ≡ 0) × ((n.order ≡ 4) × (n.header ≡ 72)))) → n.incompatible < 256 ^ 8 → n.autoclear < 256 ^ 8 → n.order < 256 ^ 4 → n.header < 256 ^ 4 → fields (created n name) ≡ n
-  created-fields fit kind two i-fit a-fit o-fit h-fit =
-      let e-version = field_shared 1 (omega arith) (omega arith) fit.version in
-      let e-name = field_shared 2 (omega arith) (omega arith) fit.name in
-      let e-letters = field_shared 3 (omega arith) (omega arith) fit.letters in
-      let e-bits = field_shared 4 (omega arith) (omega arith) fit.bits in
-      let e-size = field_shared 5 (omega arith) (omega arith) fit.size in
-      let e-crypt = field_shared 6 (omega arith) (omega arith) fit.crypt in
-      let e-entries = field_shared 7 (omega arith) (omega arith) fit.entries in
-      let e-l1 = field_shared 8 (omega arith) (omega arith) fit.l1 in
-      let e-refcounts = field_shared 9 (omega arith) (omega arith) fit.refcounts in
-      let e-extent = field_shared 10 (omega arith) (omega arith) fit.extent in
-      let e-snapshots = field_shared 11 (omega arith) (omega arith) fit.snapshots in
-      let e-records = field_shared 12 (omega arith) (omega arith) fit.records in
-      let e-incompatible = ap (λ v. cond (eqb v 3) (number (created n name) 72 8) 0) e-version ∙ since (number (created n name) 72 8) n.incompatible 0 (λ three. field_late 0 (omega arith) three (omega arith) i-fit) (λ e. sym (two e).0) kind in
-      let e-autoclear = ap (λ v. cond (eqb v 3) (number (created n name) 88 8) 0) e-version ∙ since (number (created n name) 88 8) n.autoclear 0 (λ three. field_late 1 (omega arith) three (omega arith) a-fit) (λ e. sym (two e).1.0) kind in
-      let e-order = ap (λ v. cond (eqb v 3) (number (created n name) 96 4) 4) e-version ∙ since (number (created n name) 96 4) n.order 4 (λ three. field_late 2 (omega arith) three (omega arith) o-fit) (λ e. sym (two e).1.1.0) kind in
-      let e-header = ap (λ v. cond (eqb v 3) (number (created n name) 100 4) 72) e-version ∙ since (number (created n name) 100 4) n.header 72 (λ three. field_late 3 (omega arith) three (omega arith) h-fit) (λ e. sym (two e).1.1.1) kind in
-      λ k. record {
-        version = e-version k;
-        name = e-name k;
-        letters = e-letters k;
-        bits = e-bits k;
-        size = e-size k;
-        crypt = e-crypt k;
-        entries = e-entries k;
-        l1 = e-l1 k;
-        refcounts = e-refcounts k;
-        extent = e-extent k;
-        snapshots = e-snapshots k;
-        records = e-records k;
-        incompatible = e-incompatible k;
-        autoclear = e-autoclear k;
-        order = e-order k;
-        header = e-header k;
-      }
+    pub created-fields : (n.version ≡ 2 → (n.incompatible ≡ 0) × ((n.autoclear ≡ 0) × ((n.order ≡ 4) × (n.header ≡ 72)))) → fields (created n name) ≡ n
+    created-fields two =
+        let e-version = field_shared 1 (omega arith) (omega arith) fit.version in
+        let e-name = field_shared 2 (omega arith) (omega arith) fit.name in
+        let e-letters = field_shared 3 (omega arith) (omega arith) fit.letters in
+        let e-bits = field_shared 4 (omega arith) (omega arith) fit.bits in
+        let e-size = field_shared 5 (omega arith) (omega arith) fit.size in
+        let e-crypt = field_shared 6 (omega arith) (omega arith) fit.crypt in
+        let e-entries = field_shared 7 (omega arith) (omega arith) fit.entries in
+        let e-l1 = field_shared 8 (omega arith) (omega arith) fit.l1 in
+        let e-refcounts = field_shared 9 (omega arith) (omega arith) fit.refcounts in
+        let e-extent = field_shared 10 (omega arith) (omega arith) fit.extent in
+        let e-snapshots = field_shared 11 (omega arith) (omega arith) fit.snapshots in
+        let e-records = field_shared 12 (omega arith) (omega arith) fit.records in
+        let e-incompatible = since _ _ 0 (λ three. field_late 0 (omega arith) three (omega arith) fit.incompatible) (λ e. sym (two e).0) in
+        let e-autoclear = since _ _ 0 (λ three. field_late 1 (omega arith) three (omega arith) fit.autoclear) (λ e. sym (two e).1.0) in
+        let e-order = since _ _ 4 (λ three. field_late 2 (omega arith) three (omega arith) fit.order) (λ e. sym (two e).1.1.0) in
+        let e-header = since _ _ 72 (λ three. field_late 3 (omega arith) three (omega arith) fit.header) (λ e. sym (two e).1.1.1) in
+        λ k. record {
+          version = e-version k;
+          name = e-name k;
+          letters = e-letters k;
+          bits = e-bits k;
+          size = e-size k;
+          crypt = e-crypt k;
+          entries = e-entries k;
+          l1 = e-l1 k;
+          refcounts = e-refcounts k;
+          extent = e-extent k;
+          snapshots = e-snapshots k;
+          records = e-records k;
+          incompatible = e-incompatible k;
+          autoclear = e-autoclear k;
+          order = e-order k;
+          header = e-header k;
+        }

@@ -1,12 +1,12 @@
 // Creating an image: four clusters, for every version, cluster size, guest size and backing name that fits.
 #![tactic(auto)]
 
-ghost use Rattle.std.specs.Prelude.{◌≡◌, ◌+◌, ◌*◌, ◌^◌, ◌<◌, ◌≤◌, cond, length, Ok, OnOk};
+ghost use Rattle.std.specs.Prelude.{◌≡◌, ℕ, ◌+◌, ◌*◌, ◌^◌, ◌≤◌, length, Ok, OnOk};
 ghost use Rattle.fault.specs.Outcomes.{Gives};
 ghost use Rattle.format.specs.Clusters.{cluster};
-ghost use Rattle.format.specs.Header.{header as header_in, needed};
+ghost use Rattle.format.specs.Header.{header as header_in};
 ghost use Rattle.create.specs.Laid.{laid, laid_field};
-ghost use Rattle.create.specs.Create.{wanted as wanted_of, header_length, name_place, name_fits, room, create_judged, shared_fields, late_fields, header_fields, table_fields, created, create_outcome};
+ghost use Rattle.create.specs.Create.{wanted as wanted_of, header_length, name_place, name_fits, create_judged, shared_fields, late_fields, header_fields, table_fields, created, create_outcome};
 
 use byte_lists::Field;
 use fault::{Fault, Layer, Reason};
@@ -165,10 +165,10 @@ fn table_list(c: u64) -> [Field; 5]
     ]
 }
 
-fn name_fits(n: Numbers, letters: usize) -> bool
-    ensures value { result ≡ name_fits (wanted_of n.version n.bits n.size letters) }
+fn name_fits(n: Numbers) -> bool
+    ensures value { result ≡ name_fits n }
 {
-    letters <= 1023 && header_length(n.version) as u64 + 8 + letters as u64 <= n.cluster_size()
+    n.letters <= 1023 && n.header as u64 + 8 + n.letters as u64 <= n.cluster_size()
 }
 
 fn header_length(version: u32) -> u32
@@ -187,43 +187,47 @@ fn name_place(version: u32, letters: u32) -> u64
     }
 }
 
-// Every refusal; `probe` has the version, the bits and the size that are asked for.
-fn judge_wish(probe: Numbers, letters: usize, length: u64, limit: u64) -> Result<(), Fault>
-    ensures value { result ≡ create_judged (wanted_of probe.version probe.bits probe.size letters) length limit }
+// The numbers of the image that is asked for. What 32 bits cannot hold is cut short, and then refused.
+fn wanted(version: u32, bits: u32, size: u64, letters: usize) -> Numbers
+    ensures judged { (len limit : ℕ) → create_judged result len limit ≡ create_judged (wanted_of version bits size letters) len limit }
+    ensures granted { (len limit : ℕ) → create_judged result len limit ≡ Ok tt → result ≡ wanted_of version bits size letters }
 {
-    Layer::Call.demand(probe.version_good(), Reason::Version, 4)?;
-    Layer::Call.demand(probe.bits_good(), Reason::ClusterBits, 20)?;
-    Layer::Call.demand(probe.size_good(), Reason::GuestSize, 24)?;
-    Layer::Call.demand(name_fits(probe, letters), Reason::NameTooLong, 0)?;
-    Layer::Call.demand(length == 0, Reason::NotEmpty, length)?;
-    let c = probe.cluster_size();
-    Layer::Store.demand(4 * c <= limit, Reason::NoRoom, limit / c)
-}
-
-// The numbers of the image, from a probe that was judged good.
-fn wanted(probe: Numbers, letters: u32) -> Numbers
-    requires { needed probe < 2 ^ 32 }
-    ensures value { result ≡ wanted_of probe.version probe.bits probe.size letters }
-{
-    let c = probe.cluster_size();
-    Numbers {
-        version: probe.version,
-        name: name_place(probe.version, letters),
+    let letters = letters.min(u32::MAX as usize) as u32;
+    let mut n = Numbers {
+        version,
+        name: name_place(version, letters),
         letters,
-        bits: probe.bits,
-        size: probe.size,
+        bits,
+        size,
         crypt: 0,
-        entries: probe.needed_entries() as u32,
-        l1: 3 * c,
-        refcounts: c,
+        entries: 0,
+        l1: 0,
+        refcounts: 0,
         extent: 1,
         snapshots: 0,
         records: 0,
         incompatible: 0,
         autoclear: 0,
         order: 4,
-        header: header_length(probe.version),
-    }
+        header: header_length(version),
+    };
+    n.entries = n.needed_entries().min(u32::MAX as u64) as u32;
+    n.refcounts = n.cluster_size();
+    n.l1 = 3 * n.cluster_size();
+    n
+}
+
+// Every refusal.
+fn judge_wish(n: Numbers, length: u64, limit: u64) -> Result<(), Fault>
+    ensures value { result ≡ create_judged n length limit }
+{
+    Layer::Call.demand(n.version_good(), Reason::Version, 4)?;
+    Layer::Call.demand(n.bits_good(), Reason::ClusterBits, 20)?;
+    Layer::Call.demand(n.size_good(), Reason::GuestSize, 24)?;
+    Layer::Call.demand(name_fits(n), Reason::NameTooLong, 0)?;
+    Layer::Call.demand(length == 0, Reason::NotEmpty, length)?;
+    let c = n.cluster_size();
+    Layer::Store.demand(4 * c <= limit, Reason::NoRoom, limit / c)
 }
 
 fn lay_late<S: Store>(s: &mut S, n: Numbers)
@@ -264,26 +268,8 @@ pub fn create<S: Store>(
     ensures limit { S.Store.limit s.new ≡ S.Store.limit s.old }
     ensures judged { OnOk result (header_in (S.Store.bytes s.new) ≡ Ok (wanted_of version bits size (length name.now))) }
 {
-    let probe = Numbers {
-        version,
-        name: 0,
-        letters: 0,
-        bits,
-        size,
-        crypt: 0,
-        entries: 0,
-        l1: 0,
-        refcounts: 0,
-        extent: 0,
-        snapshots: 0,
-        records: 0,
-        incompatible: 0,
-        autoclear: 0,
-        order: 4,
-        header: 72,
-    };
-    judge_wish(probe, name.len(), s.length(), s.limit())?;
-    let n = wanted(probe, name.len() as u32);
+    let n = wanted(version, bits, size, name.len());
+    judge_wish(n, s.length(), s.limit())?;
     fill(s, n, name);
     Ok(())
 }

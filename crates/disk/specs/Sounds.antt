@@ -55,5 +55,5 @@ zeros_sound d = sound_zeros d.count
 pub raw_sound : (d : RawDisk) → Sound (raw_reading d.list.now)
 raw_sound d = sound_raw d.list.now d.most (octets_of d.list.now d.octets)
 
-pub rescued_sound : (d : RescuedDisk) → Sound (rescued_reading d.list.now d.spoiled.now)
-rescued_sound d = sound_rescued d.list.now d.spoiled.now d.most (octets_of d.list.now d.octets)
+pub rescued_sound : (d : RescuedDisk) → Sound (rescued_reading d.raw.list.now d.spoiled.now)
+rescued_sound d = sound_rescued d.raw.list.now d.spoiled.now d.raw.most (octets_of d.raw.list.now d.raw.octets)

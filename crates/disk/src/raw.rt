@@ -15,22 +15,14 @@ pub struct RawDisk<'a> {
 
 impl<'a> RawDisk<'a> {
     pub fn new(list: &'a [u8]) -> RawDisk<'a>
-        ensures reading { raw_reading result.list.now ≡ raw_reading list.now }
+        ensures list { result.list.now ≡ list.now }
     {
         RawDisk { list }
     }
 }
 
-// The begun sectors of a list.
-pub(crate) fn sectors_in(list: &[u8]) -> u64
-    ensures value { result ≡ sectors_of (length list.now) }
-    ensures most { result ≤ 2 ^ 55 }
-{
-    (list.len() as u64).div_ceil(512)
-}
-
 // The sector of a list that has it.
-pub(crate) fn copy_sector(list: &[u8], sector: u64, out: &mut [u8; 512])
+fn copy_sector(list: &[u8], sector: u64, out: &mut [u8; 512])
     requires { sector * 512 ≤ length list.now }
     ensures after { out.new ≡ sector_of list.now sector }
 {
@@ -48,11 +40,11 @@ impl Disk for RawDisk<'_> {
     ghost sound = { raw_sound };
 
     fn sectors(&self) -> u64 {
-        sectors_in(self.list)
+        (self.list.len() as u64).div_ceil(512)
     }
 
     fn read_sector(&self, sector: u64, out: &mut [u8; 512]) -> Result<(), Fault> {
-        let within = sector < sectors_in(self.list);
+        let within = sector < self.sectors();
         Layer::Disk.demand(within, Reason::PastDisk, sector)?;
         copy_sector(self.list, sector, out);
         Ok(())

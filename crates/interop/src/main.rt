@@ -16,7 +16,7 @@ fn list(rt: &HostRuntime, n: Numbers, image: &mut [u8]) -> anyhow::Result<()> {
             Ok(record) => {
                 let text = String::from_utf8_lossy(rt.alloc(), record.id())?;
                 println!(rt; "  snapshot {text}")?;
-                at = at.saturating_add(record.size);
+                at = at.saturating_add(record.head.size());
             }
             Err(f) => println!(rt; "  refused {f}")?,
         }

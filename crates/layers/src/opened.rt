@@ -37,7 +37,7 @@ impl Under {
     // file no image asks for one.
     pub fn disk(&self) -> Chain<'_, MemoryStore, RescuedDisk<'_>>
         ensures layers { result.layers.now ≡ self.now.layers.items }
-        ensures base { rescued_reading result.base.list.now result.base.spoiled.now ≡ rescued_reading self.now.base.items self.now.spoiled.items }
+        ensures base { rescued_reading result.base.raw.list.now result.base.spoiled.now ≡ rescued_reading self.now.base.items self.now.spoiled.items }
     {
         Chain {
             layers: self.layers.as_slice(),

@@ -25,7 +25,7 @@ any_limit (Split s) = split_limit s
 abbrev pub base_reading : BaseDisk → Reading
 base_reading (Zeros d) = zeros_reading d.count
 base_reading (Raw d) = raw_reading d.list.now
-base_reading (Rescued d) = rescued_reading d.list.now d.spoiled.now
+base_reading (Rescued d) = rescued_reading d.raw.list.now d.spoiled.now
 
 -- what every store and every disk owes
 pub any_octets : (s : AnyStore) → Octets (any_bytes s)

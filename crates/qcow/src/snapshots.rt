@@ -27,12 +27,12 @@ fn date_in<S: Store>(s: &S, r: &Snapshot) -> Result<Date, Fault> {
 
 // The name, which stands behind the extra data and the id.
 fn read_name<S: Store>(s: &S, r: &Snapshot, name: &mut [u8]) -> Result<(), Fault> {
-    let front = 40 + r.extra as u64 + r.letters as u64;
+    let front = 40 + r.head.extra as u64 + r.head.id as u64;
     s.read(r.place.saturating_add(front), name)
 }
 
 fn row_of<S: Store>(heap: Global, paths: &[String], s: &S, r: &Snapshot) -> Result<Row, Stop> {
-    let mut name = vec![in heap; 0u8; r.name as usize]?;
+    let mut name = vec![in heap; 0u8; r.head.name as usize]?;
     images::granted(heap, paths, read_name(s, r, name.as_mut_slice()))?;
     let date = images::granted(heap, paths, date_in(s, r))?;
     Ok(Row {

@@ -1,20 +1,16 @@
--- A search of records by id, and records seen one by one. Assumes nothing.
-use Rattle.std.proofs.Common.{◌≡◌, ℕ, suc, ◌+◌, ◌-◌, ◌<◌, not, List, [], ◌∷◌, ◌++◌, is_some, Ok, Err, Option, Result, sym, ap, ◌∙◌, arith}
+-- Records seen one by one. Assumes nothing.
+use Rattle.std.proofs.Common.{◌≡◌, ℕ, suc, ◌+◌, ◌-◌, ◌<◌, not, List, [], ◌∷◌, ◌++◌, is_some, Ok, Err, Result, sym, ap, ◌∙◌, arith}
 use Rattle.fault.specs.declared.Fault.{Fault}
 use Rattle.fault.specs.Outcomes.{and_then}
 use Rattle.format.specs.declared.numbers.Numbers.{Numbers}
 use Rattle.snapshot.specs.declared.records.Snapshot.{Snapshot}
-use Rattle.snapshot.specs.Records.{id_of, record_in, record_good}
+use Rattle.snapshot.specs.Records.{size, id_of, record_in, record_good}
 use Rattle.snapshot.specs.All.{position, records_from}
-
--- a record's id is new, or an earlier one's
-pub id_judged : (seen : List Snapshot) (a b : List ℕ) (o : Option ℕ) (place : ℕ) → a ≡ b → o ≡ position a seen 0 → record_good (not (is_some o)) place ≡ record_good (not (is_some (position b seen 0))) place
-id_judged seen a b o place e f = ap (λ x. record_good (not (is_some x)) place) (f ∙ ap (λ l. position l seen 0) e)
 
 -- one record more of m, seen good, bad in itself, or bad by its id
 module _ (n : Numbers) (bs : List ℕ) (m i at : ℕ) (seen : List Snapshot) (lt : i < m) where
   then_rest : Snapshot → Result (List Snapshot) Fault
-  then_rest r = and_then (record_good (not (is_some (position (id_of r) seen 0))) r.place) λ _. records_from n bs (m - (i + 1)) (at + r.size) (seen ++ r ∷ [])
+  then_rest r = and_then (record_good (not (is_some (position (id_of r) seen 0))) r.place) λ _. records_from n bs (m - (i + 1)) (at + size r.head) (seen ++ r ∷ [])
 
   step_on : records_from n bs (m - i) at seen ≡ and_then (record_in n bs at) then_rest
   unfolding then_rest
@@ -26,8 +22,8 @@ module _ (n : Numbers) (bs : List ℕ) (m i at : ℕ) (seen : List Snapshot) (lt
   module _ (r : Snapshot) (e : Ok r ≡ record_in n bs at) where
     pub one-twice : (f : Fault) → Err f ≡ record_good (not (is_some (position (id_of r) seen 0))) r.place → records_from n bs (m - i) at seen ≡ Err f
     unfolding then_rest
-    one-twice f g = step_on ∙ ap (λ x. and_then x then_rest) (sym e) ∙ ap (λ x. and_then x (λ _. records_from n bs (m - (i + 1)) (at + r.size) (seen ++ r ∷ []))) (sym g)
+    one-twice f g = step_on ∙ ap (λ x. and_then x then_rest) (sym e) ∙ ap (λ x. and_then x (λ _. records_from n bs (m - (i + 1)) (at + size r.head) (seen ++ r ∷ []))) (sym g)
 
-    pub one_more : (u : Unit {0}) → Ok u ≡ record_good (not (is_some (position (id_of r) seen 0))) r.place → records_from n bs (m - i) at seen ≡ records_from n bs (m - (i + 1)) (at + r.size) (seen ++ r ∷ [])
+    pub one_more : (u : Unit {0}) → Ok u ≡ record_good (not (is_some (position (id_of r) seen 0))) r.place → records_from n bs (m - i) at seen ≡ records_from n bs (m - (i + 1)) (at + size r.head) (seen ++ r ∷ [])
     unfolding then_rest
-    one_more u g = step_on ∙ ap (λ x. and_then x then_rest) (sym e) ∙ ap (λ x. and_then x (λ _. records_from n bs (m - (i + 1)) (at + r.size) (seen ++ r ∷ []))) (sym g)
+    one_more u g = step_on ∙ ap (λ x. and_then x then_rest) (sym e) ∙ ap (λ x. and_then x (λ _. records_from n bs (m - (i + 1)) (at + size r.head) (seen ++ r ∷ []))) (sym g)

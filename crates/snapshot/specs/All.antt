@@ -17,14 +17,14 @@ use Rattle.fault.specs.Outcomes.{and_then}
 use Rattle.format.specs.declared.numbers.Numbers.{Numbers}
 use Rattle.snapshot.specs.declared.all.Records.{Records}
 use Rattle.snapshot.specs.declared.records.Snapshot.{Snapshot}
-use Rattle.snapshot.specs.Records.{id_of, record_in, record_good}
+use Rattle.snapshot.specs.Records.{size, id_of, record_in, record_good}
 
 abbrev pub position : List ℕ → List Snapshot → ℕ → Option ℕ
 position id rs i = position_from (λ r. bytes_eq id (id_of r)) i rs
 
 -- what a list is said to hold past its end
 abbrev pub no_snapshot : Snapshot
-no_snapshot = record { place = 0; size = 0; l1 = 0; extra = 0; name = 0; id = []; letters = 0 }
+no_snapshot = record { place = 0; head = record { l1 = 0; entries = 0; id = 0; name = 0; state = 0; extra = 0 }; id = record { items = [] } }
 
 abbrev pub chosen : List Snapshot → Option ℕ → Result Snapshot Fault
 chosen rs (Some i) = Ok (slice_index_or rs i no_snapshot)
@@ -42,7 +42,7 @@ records_from n bs zero at seen = Ok seen
 records_from n bs (suc k) at seen =
     and_then (record_in n bs at) λ r.
     and_then (record_good (not (is_some (position (id_of r) seen 0))) r.place) λ _.
-    records_from n bs k (at + r.size) (seen ++ r ∷ [])
+    records_from n bs k (at + size r.head) (seen ++ r ∷ [])
 
 abbrev pub records : Numbers → List ℕ → Result (List Snapshot) Fault
 records n bs = records_from n bs (many n) 0 []
@@ -54,4 +54,4 @@ abbrev pub id_judged : List ℕ → Result (Unit {0}) Fault
 id_judged id = cond (nat_le 1 (length id) && nat_le (length id) 16) (Ok tt) (Err (fault BadId Call 0))
 
 abbrev pub table : Numbers → List ℕ → List ℕ → Result ℕ Fault
-table n bs id = and_then (records n bs) λ rs. and_then (named id rs) λ r. Ok r.l1
+table n bs id = and_then (records n bs) λ rs. and_then (named id rs) λ r. Ok r.head.l1

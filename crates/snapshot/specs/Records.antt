@@ -3,15 +3,16 @@
 --   head_good    what those must hold
 --   rest_good    what the whole record must hold besides
 --   record_in    the record at a place of the snapshot table, or the fault at its first byte
---   id_of        the id of a record
-use Rattle.std.specs.Prelude.{ℕ, ◌+◌, ◌-◌, ◌*◌, ◌/◌, ◌^◌, min, Bool, cond, ◌&&◌, ◌||◌, List, length, take, Ok, Err, Result, ◌==◌, nat_le}
+--   id_of        the id of a record that was kept
+use Rattle.std.specs.Prelude.{ℕ, ◌+◌, ◌-◌, ◌*◌, ◌/◌, ◌^◌, min, Bool, cond, ◌&&◌, ◌||◌, List, length, Ok, Err, Result, ◌==◌, nat_le}
 use Rattle.std.specs.List.{list_all}
 use Rattle.fault.specs.declared.Fault.{Fault}
 use Rattle.fault.specs.declared.Layer.TheVariants.{Tables}
 use Rattle.fault.specs.declared.Reason.TheVariants.{BadEntry}
 use Rattle.fault.specs.Faults.{fault}
 use Rattle.fault.specs.Outcomes.{and_then}
-use Rattle.byte_lists.specs.Runs.{run, grow}
+use Rattle.arrayvec.specs.ArrayVec.{ArrayVec}
+use Rattle.byte_lists.specs.Runs.{run}
 use Rattle.byte_lists.specs.Numbers.{number}
 use Rattle.store.specs.Stores.{load}
 use Rattle.format.specs.declared.numbers.Numbers.{Numbers}
@@ -55,17 +56,13 @@ rest_good n h r = extra_says n h r && all_zero (run r (body h) (size h - body h)
 abbrev pub record_good : Bool → ℕ → Result (Unit {0}) Fault
 record_good test place = cond test (Ok tt) (Err (fault BadEntry Tables place))
 
+-- the id of a record, from its bytes
+abbrev pub id_in : Head → List ℕ → ArrayVec ℕ
+id_in h r = record { items = run r (40 + h.extra) h.id }
+
 -- what is kept of a good record, from its bytes
 abbrev pub snapshot : ℕ → Head → List ℕ → Snapshot
-snapshot place h r = record {
-  place = place;
-  size = size h;
-  l1 = h.l1;
-  extra = h.extra;
-  name = h.name;
-  id = grow (run r (40 + h.extra) h.id) 16;
-  letters = h.id;
-}
+snapshot place h r = record { place = place; head = h; id = id_in h r }
 
 abbrev pub head_in : Numbers → List ℕ → ℕ → ℕ → Result Head Fault
 head_in n bs place at =
@@ -89,4 +86,4 @@ record_in n bs at =
     Ok (snapshot (record_place n at) h r)
 
 abbrev pub id_of : Snapshot → List ℕ
-id_of r = take r.letters r.id
+id_of r = r.id.items

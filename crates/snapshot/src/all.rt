@@ -1,5 +1,5 @@
 // All snapshot records of an image, judged in their order; no two have the same id.
-ghost use Rattle.std.specs.Prelude.{◌≡◌, ◌+◌, ◌<◌, ◌≤◌, Bool, not, [], ◌∷◌, ◌++◌, length, is_some, IfSome, Ok, Err, MatchResult};
+ghost use Rattle.std.specs.Prelude.{◌≡◌, ◌+◌, ◌<◌, ◌≤◌, not, length, is_some, IfSome, Ok, Err, MatchResult};
 ghost use Rattle.std.specs.Str.{bytes_eq};
 ghost use Rattle.snapshot.specs.Records.{id_of, record_good};
 ghost use Rattle.snapshot.specs.All.{position, named as named_by, kept as kept_of, records as records_of, id_judged, table};
@@ -39,11 +39,11 @@ impl Records {
     }
 
     // The record with this id.
-    pub fn named(&self, id: &[u8]) -> Result<Snapshot, Fault>
-        ensures value { result ≡ named_by id.now (kept_of self.now) }
+    pub fn named(&self, id: &[u8]) -> Result<&Snapshot, Fault>
+        ensures value { MatchResult result (λ r. named_by id.now (kept_of self.now) ≡ Ok r.now) (λ e. named_by id.now (kept_of self.now) ≡ Err e) }
     {
         match self.find(id) {
-            Some(i) => Ok(self.kept()[i]),
+            Some(i) => Ok(&self.kept()[i]),
             None => Err(Fault::new(Reason::NoSuchId, Layer::Call, 0)),
         }
     }
@@ -68,8 +68,8 @@ pub fn judge_records<S: Store>(s: &S, n: Numbers) -> Result<Records, Fault>
     for i in 0..n.snapshots.min(64) {
         let r = judge_record(s, n, at)?;
         all.judge_id(&r)?;
+        at += r.head.size();
         all.list.push(r);
-        at += r.size;
     }
     Ok(all)
 }
@@ -87,5 +87,5 @@ pub fn table_of<S: Store>(s: &S, n: Numbers, id: &[u8]) -> Result<u64, Fault>
     ensures value { result ≡ table n (S.Store.bytes s.now) id.now }
 {
     let all = judge_records(s, n)?;
-    Ok(all.named(id)?.l1)
+    Ok(all.named(id)?.head.l1)
 }

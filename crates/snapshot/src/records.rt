@@ -1,18 +1,16 @@
 // Snapshot records: what a record's bytes say, judged.
-ghost use Rattle.std.specs.Prelude.{◌≡◌, ◌+◌, ◌-◌, ◌^◌, ◌≤◌, true, ◌&&◌, length, IfOk, ◌==◌};
-ghost use Rattle.fault.specs.Outcomes.{Tells};
-ghost use Rattle.format.specs.Clusters.{cluster};
-ghost use Rattle.byte_lists.specs.Runs.{run, grow};
-ghost use Rattle.byte_lists.specs.Numbers.{number};
-ghost use Rattle.snapshot.specs.Records.{head_of, body, size as size_of, extra_good, sizes_good, head_good, extra_says, all_zero, rest_good, head_in, rest_in, record_place, record_in, id_of};
+ghost use Rattle.std.specs.Prelude.{◌≡◌, ◌+◌, ◌-◌, ◌^◌, ◌≤◌, true, length, IfOk};
+ghost use Rattle.byte_lists.specs.Runs.{run};
+ghost use Rattle.snapshot.specs.Records.{head_of, body, size as size_of, extra_good, sizes_good, head_good, extra_says, all_zero, rest_good, id_in, head_in, record_place, record_in, id_of};
 
+use arrayvec::ArrayVec;
 use byte_lists::{number_at, within};
 use fault::{Fault, Layer, Reason};
 use format::Numbers;
 use store::Store;
 
 // The numbers in a record's first 40 bytes that are judged.
-#[derive(Clone, Copy)]
+#[derive(Clone, Copy, Default, PartialEq, Eq, Debug)]
 pub struct Head {
     pub l1: u64,
     pub entries: u32,
@@ -22,18 +20,12 @@ pub struct Head {
     pub extra: u32,
 }
 
-// A good record: where it begins and its bytes, its L1 table, its id, and what says where its name lies.
-#[derive(Clone, Copy, Default, PartialEq, Eq, Debug)]
+// A good record: where it begins, the numbers that it begins with, and its id.
+#[derive(Drop, Default, PartialEq, Eq, Debug)]
 pub struct Snapshot {
     pub place: u64,
-    pub size: u64,
-    pub l1: u64,
-    // the bytes of its extra data and of its name
-    pub extra: u32,
-    pub name: u16,
-    // the id, filled up with zeros, and its bytes
-    pub id: [u8; 16],
-    pub letters: u16,
+    pub head: Head,
+    pub id: ArrayVec<u8, 16>,
 }
 
 impl Snapshot {
@@ -41,7 +33,7 @@ impl Snapshot {
     pub fn id(&self) -> &[u8]
         ensures value { result.now ≡ id_of self.now }
     {
-        &self.id[0..(self.letters as usize).min(16)]
+        self.id.as_slice()
     }
 }
 
@@ -65,10 +57,11 @@ impl Head {
         40 + self.extra as u64 + self.id as u64 + self.name as u64
     }
 
-    fn size(self) -> u64
+    // The bytes of the record, padding and all.
+    pub fn size(self) -> u64
         ensures value { result ≡ size_of self }
     {
-        (self.body() + 7) / 8 * 8
+        self.body().next_multiple_of(8)
     }
 
     fn extra_good(self, n: Numbers) -> bool
@@ -93,44 +86,53 @@ impl Head {
     }
 }
 
-// No machine state, and the header's guest size.
-fn extra_fits(n: Numbers, r: &[u8]) -> bool
-    requires { 56 ≤ length r.now }
-    ensures value { result ≡ (number r.now 40 8 == 0 && number r.now 48 8 == n.size) }
-{
-    number_at::<u64>(r, 40) == Some(0) && number_at(r, 48) == Some(n.size)
+// A record whose head is good for the header's numbers, with its bytes, padding and all.
+#[derive(Clone, Copy)]
+struct Record<'a> {
+    n: Numbers,
+    head: Head,
+    bytes: &'a [u8],
+    ghost whole: { length bytes.now ≡ size_of head },
+    ghost extra: { extra_good n head ≡ true },
+    ghost id: { head.id ≤ 16 },
 }
 
-fn padding_zero(r: &[u8], body: usize) -> bool
-    requires { body ≤ length r.now }
-    ensures value { result ≡ all_zero (run r.now body (length r.now - body)) }
-{
-    r[body..r.len()].iter().all(|b| *b == 0)
-}
-
-impl Head {
-    fn extra_says(self, n: Numbers, r: &[u8]) -> bool
-        requires r_len { length r.now ≡ size_of self }
-        requires self_value { extra_good n self ≡ true }
-        ensures value { result ≡ extra_says n self r.now }
+impl Record<'_> {
+    // No machine state, and the header's guest size.
+    fn extra_says(&self) -> bool
+        ensures value { result ≡ extra_says self.now.n self.now.head self.now.bytes.now }
     {
-        self.extra == 0 || extra_fits(n, r)
+        self.head.extra == 0
+            || (number_at::<u64>(self.bytes, 40) == Some(0)
+                && number_at(self.bytes, 48) == Some(self.n.size))
     }
 
-    // Whether the whole record says what it must besides; `r` has its bytes, padding and all.
-    fn rest_good(self, n: Numbers, r: &[u8]) -> bool
-        requires r_len { length r.now ≡ size_of self }
-        requires self_value { extra_good n self ≡ true }
-        ensures value { result ≡ rest_good n self r.now }
+    fn padding_zero(&self) -> bool
+        ensures value { result ≡ all_zero (run self.now.bytes.now (body self.now.head) (size_of self.now.head - body self.now.head)) }
     {
-        self.extra_says(n, r) && padding_zero(r, self.body() as usize)
+        let body = self.head.body() as usize;
+        self.bytes[body..self.bytes.len()].iter().all(|b| *b == 0)
+    }
+
+    // Whether the whole record says what it must besides.
+    fn rest_good(&self) -> bool
+        ensures value { result ≡ rest_good self.now.n self.now.head self.now.bytes.now }
+    {
+        self.extra_says() && self.padding_zero()
+    }
+
+    fn id(&self) -> ArrayVec<u8, 16>
+        ensures value { result ≡ id_in self.now.head self.now.bytes.now }
+    {
+        let at = 40 + self.head.extra as usize;
+        ArrayVec::try_from(&self.bytes[at..at + self.head.id as usize]).unwrap()
     }
 }
 
 // The first 40 bytes of the record that begins at `at` of the snapshot table and at `place` of the store.
 fn head_at<S: Store>(s: &S, n: Numbers, place: u64, at: u64) -> Result<Head, Fault>
     ensures value { result ≡ head_in n (S.Store.bytes s.now) place at }
-    ensures sizes { IfOk result (λ h. (size_of h ≤ 1144) × (extra_good n h ≡ true) × (h.id ≤ 16) × (at + size_of h ≤ cluster n)) }
+    ensures sizes { IfOk result (λ h. (size_of h ≤ 1144) × (extra_good n h ≡ true) × (h.id ≤ 16) × (at + size_of h ≤ 2 ^ 21)) }
 {
     Layer::Tables.demand(within(at, 40, n.cluster_size()), Reason::BadEntry, place)?;
     let mut bytes = [0u8; 40];
@@ -145,27 +147,6 @@ fn head_at<S: Store>(s: &S, n: Numbers, place: u64, at: u64) -> Result<Head, Fau
     Ok(h)
 }
 
-// The whole record, into a buffer of its size.
-fn rest_at<S: Store>(s: &S, n: Numbers, place: u64, h: Head, room: &mut [u8]) -> Result<(), Fault>
-    requires room_len { length room.old ≡ size_of h }
-    requires h_value { extra_good n h ≡ true }
-    ensures value { Tells result (rest_in n (S.Store.bytes s.now) place h) room.new }
-{
-    s.read(place, room)?;
-    Layer::Tables.demand(h.rest_good(n, room), Reason::BadEntry, place)
-}
-
-// An id of some bytes in a record, filled up with zeros.
-fn id_in(r: &[u8], at: usize, letters: usize) -> [u8; 16]
-    requires letters_in_bounds { at + letters ≤ length r.now }
-    requires letters_bound { letters ≤ 16 }
-    ensures value { result ≡ grow (run r.now at letters) 16 }
-{
-    let mut id = [0u8; 16];
-    id[0..letters].copy_from_slice(&r[at..at + letters]);
-    id
-}
-
 fn record_place(n: Numbers, at: u64) -> u64
     ensures value { result ≡ record_place n at }
 {
@@ -175,21 +156,18 @@ fn record_place(n: Numbers, at: u64) -> u64
 // The record that begins at `at` of the snapshot table, judged.
 pub fn judge_record<S: Store>(s: &S, n: Numbers, at: u64) -> Result<Snapshot, Fault>
     ensures value { result ≡ record_in n (S.Store.bytes s.now) at }
-    ensures ends { IfOk result (λ t. at + t.size ≤ 2 ^ 21) }
+    ensures ends { IfOk result (λ t. at + size_of t.head ≤ 2 ^ 21) }
 {
     let place = record_place(n, at);
-    let h = head_at(s, n, place, at)?;
-    let size = h.size();
-    let mut bytes = [0u8; 1144];
-    let room = &mut bytes[0..size as usize];
-    rest_at(s, n, place, h, room)?;
+    let head = head_at(s, n, place, at)?;
+    let mut room = [0u8; 1144];
+    let bytes = &mut room[0..head.size() as usize];
+    s.read(place, bytes)?;
+    let r = Record { n, head, bytes };
+    Layer::Tables.demand(r.rest_good(), Reason::BadEntry, place)?;
     Ok(Snapshot {
         place,
-        size,
-        l1: h.l1,
-        extra: h.extra,
-        name: h.name,
-        id: id_in(room, 40 + h.extra as usize, h.id as usize),
-        letters: h.id,
+        head,
+        id: r.id(),
     })
 }

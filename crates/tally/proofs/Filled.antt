@@ -150,13 +150,13 @@ module _ (n : Numbers) (bs : List ℕ) (h : ℕ) where
   all_is [] words lt j m t was = moved j m (t + 0) refl refl (sym (add-zero t)) was
   all_is (r ∷ rs) words lt j m t was =
       let low : kind_number SnapshotL1 < 7 = omega arith in
-      let one = walked_is SnapshotL1 low r.l1 words lt j m t was in
-      let long = length-one n bs SnapshotL1 r.l1 words in
-      let refs = l1_refs n bs SnapshotL1 r.l1 in
+      let one = walked_is SnapshotL1 low r.head.l1 words lt j m t was in
+      let long = length-one n bs SnapshotL1 r.head.l1 words in
+      let refs = l1_refs n bs SnapshotL1 r.head.l1 in
       let later = snapshot_refs n bs rs in
-      let rest = all_is rs (walked n bs SnapshotL1 r.l1 words) (subst (λ x. h < x) (sym long) lt) _ _ _ one in
+      let rest = all_is rs (walked n bs SnapshotL1 r.head.l1 words) (subst (λ x. h < x) (sym long) lt) _ _ _ one in
       moved (kind_from h j (refs ++ later)) (cond (any_twice n bs (r ∷ rs) h) 2 m) (t + times h (refs ++ later))
-      (sym (kind_append h j refs later)) (either (leb 2 (times h (tree_refs n bs r.l1))) (any_twice n bs rs h) m) (omega (arith, times-append h refs later)) rest
+      (sym (kind_append h j refs later)) (either (leb 2 (times h (tree_refs n bs r.head.l1))) (any_twice n bs rs h) m) (omega (arith, times-append h refs later)) rest
 
   the_sum : (a b c d : List Ref) → 0 + times h a + times h b + times h c + times h d ≡ times h (a ++ (b ++ (c ++ d)))
   the_sum a b c d = omega (arith, times-append h a (b ++ (c ++ d)), times-append h b (c ++ d), times-append h c d)
@@ -189,7 +189,7 @@ module _ (n : Numbers) (bs : List ℕ) (h : ℕ) where
 
 length_all : (n : Numbers) (bs : List ℕ) (rs : List Snapshot) (words : List ℕ) → length (all_walked n bs rs words) ≡ length words
 length_all n bs [] words = refl
-length_all n bs (r ∷ rs) words = length_all n bs rs (walked n bs SnapshotL1 r.l1 words) ∙ length-one n bs SnapshotL1 r.l1 words
+length_all n bs (r ∷ rs) words = length_all n bs rs (walked n bs SnapshotL1 r.head.l1 words) ∙ length-one n bs SnapshotL1 r.head.l1 words
 
 two_marks : (b : Bool) → eqb (cond {A = ℕ} b 2 0) 2 ≡ b
 two_marks true = refl

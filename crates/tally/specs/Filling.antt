@@ -33,7 +33,7 @@ walked n bs kind l1 words = all_touched Forget (tree_refs n bs l1) (all_touched 
 
 abbrev pub all_walked : Numbers → List ℕ → List Snapshot → List ℕ → List ℕ
 all_walked n bs [] words = words
-all_walked n bs (r ∷ rs) words = all_walked n bs rs (walked n bs SnapshotL1 r.l1 words)
+all_walked n bs (r ∷ rs) words = all_walked n bs rs (walked n bs SnapshotL1 r.head.l1 words)
 
 -- what is named by the header and the refcount table
 abbrev pub fixed_refs : Numbers → List ℕ → List Ref

@@ -31,7 +31,7 @@ tally refs k = map (tally_word refs) (range_with_len 0 k)
 
 abbrev pub any_twice : Numbers → List ℕ → List Snapshot → ℕ → Bool
 any_twice n bs [] h = false
-any_twice n bs (r ∷ rs) h = nat_le 2 (times h (tree_refs n bs r.l1)) || any_twice n bs rs h
+any_twice n bs (r ∷ rs) h = nat_le 2 (times h (tree_refs n bs r.head.l1)) || any_twice n bs rs h
 
 abbrev pub twice : Numbers → List ℕ → List Snapshot → ℕ → Bool
 twice n bs rs h = nat_le 2 (times h (tree_refs n bs n.l1)) || any_twice n bs rs h

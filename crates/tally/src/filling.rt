@@ -119,7 +119,7 @@ fn walk_tables<S: Store>(s: &S, n: Numbers, list: &[Snapshot], words: &mut [u32]
     ensures after { words.new ≡ all_walked n (S.Store.bytes s.now) list.now words.old }
 {
     for r in list {
-        walk_table(s, n, Kind::SnapshotL1, r.l1, words);
+        walk_table(s, n, Kind::SnapshotL1, r.head.l1, words);
     }
 }
 

@@ -105,7 +105,7 @@ l1_refs n bs kind l1 = named n kind l1 ∷ tree_refs n bs l1
 
 abbrev pub snapshot_refs : Numbers → List ℕ → List Snapshot → List Ref
 snapshot_refs n bs [] = []
-snapshot_refs n bs (r ∷ rs) = l1_refs n bs SnapshotL1 r.l1 ++ snapshot_refs n bs rs
+snapshot_refs n bs (r ∷ rs) = l1_refs n bs SnapshotL1 r.head.l1 ++ snapshot_refs n bs rs
 
 abbrev pub record_refs : Numbers → List Ref
 record_refs n = cond (n.snapshots == 0) [] (named n SnapshotTable n.records ∷ [])

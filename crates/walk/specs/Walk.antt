@@ -35,7 +35,7 @@ tree_judged n bs l1 = each (branch_judged n bs l1) 0 (entries_of n)
 
 abbrev pub trees_judged : Numbers → List ℕ → List Snapshot → Result (Unit {0}) Fault
 trees_judged n bs [] = Ok tt
-trees_judged n bs (r ∷ rs) = and_then (tree_judged n bs r.l1) λ _. trees_judged n bs rs
+trees_judged n bs (r ∷ rs) = and_then (tree_judged n bs r.head.l1) λ _. trees_judged n bs rs
 
 abbrev pub walk : Numbers → List ℕ → Result (List Snapshot) Fault
 walk n bs =

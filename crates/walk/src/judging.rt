@@ -54,7 +54,7 @@ fn judge_trees<S: Store>(s: &S, n: Numbers, list: &[Snapshot]) -> Result<(), Fau
     ensures value { result ≡ trees_judged n (S.Store.bytes s.now) list.now }
 {
     for r in list {
-        judge_tree(s, n, r.l1)?;
+        judge_tree(s, n, r.head.l1)?;
     }
     Ok(())
 }

@@ -8,8 +8,8 @@ use Rattle.create.specs.Create.{shared_fields, header_fields, table_fields}
 use Rattle.create.proofs.Filling.{filled}
 use Rattle.create.proofs.fill.Goals as goal
 
-pub returns : goal.returns
-returns g c =
+pub returns-clause-bytes : goal.returns-clause-bytes
+returns-clause-bytes g c =
     let bs = g.S.Store.bytes c.args.s.now in
     let limit = g.S.Store.limit c.args.s.now in
     let n = c.args.n in
@@ -25,9 +25,6 @@ returns g c =
     let e₃ : bs₃ ≡ laid (shared_fields n) bs₂ = c.lay.ensures.bytes ∙ ap (λ l. laid l bs₂) c.shared_list.ensures.value in
     let e₄ : bs₄ ≡ laid (header_fields n) bs₃ = c.lay_late.ensures.bytes in
     let e₅ : g.S.Store.bytes c.lay-2.new.s ≡ laid (table_fields (cluster n)) bs₄ = c.lay-2.ensures.bytes ∙ ap (λ l. laid l bs₄) (c.table_list.ensures.value ∙ ap table_fields size) in
-    record {
-      bytes = e₅
-          ∙ ap (laid (table_fields (cluster n))) (e₄ ∙ ap (laid (header_fields n)) (e₃ ∙ ap (laid (shared_fields n)) (e₂ ∙ ap (λ l. after l (stored l n.name name)) e₁)))
-          ∙ filled n name c.requires.name_bound bs limit c.requires.s_len c.requires.n_bound;
-      limit = c.lay-2.ensures.limit ∙ c.lay_late.ensures.limit ∙ c.lay.ensures.limit ∙ c.replace.ensures.limit ∙ c.grow.ensures.limit;
-    }
+    e₅
+    ∙ ap (laid (table_fields (cluster n))) (e₄ ∙ ap (laid (header_fields n)) (e₃ ∙ ap (laid (shared_fields n)) (e₂ ∙ ap (λ l. after l (stored l n.name name)) e₁)))
+    ∙ filled n name c.requires.name_bound bs limit c.requires.s_len c.requires.n_bound

@@ -1,5 +1,6 @@
 use Rattle.std.proofs.Common.{◌+◌, ◌-◌, ◌<◌, sym, ap, ◌∙◌, arith}
 use Rattle.std.proofs.lemmas.Result.{err_from_is_err_and}
+use Rattle.snapshot.specs.Records.{size}
 use Rattle.snapshot.specs.All.{many, records_from, kept}
 use Rattle.snapshot.proofs.Found.{one_bad, one-twice, one_more}
 use Rattle.snapshot.proofs.all.judge_records.Goals as goal
@@ -29,8 +30,9 @@ loop-i-preserved g c =
     let lt : c.loop-i.i < many n = omega arith in
     let r = c.in_ok-r.r in (
       c.push.ensures.len ∙ ap (λ k. k + 1) c.loop-i.invariant.0,
-      c.in_ok-r.ensures.ends,
-      ap (records_from n bs (many n - (c.loop-i.i + 1)) (c.loop-i.at + r.size)) c.push.ensures.items
+      omega (arith, c.in_ok-r.ensures.ends, c.size-at.ensures.value),
+      ap (λ k. records_from n bs (many n - (c.loop-i.i + 1)) (c.loop-i.at + k) c.push.new.self.items) c.size-at.ensures.value
+          ∙ ap (records_from n bs (many n - (c.loop-i.i + 1)) (c.loop-i.at + size r.head)) c.push.ensures.items
           ∙ sym (one_more n bs (many n) c.loop-i.i c.loop-i.at (kept c.loop-i.all) lt r c.in_ok-r.ensures.value _ c.in_ok-judge_id.ensures.value)
           ∙ c.loop-i.invariant.2,
     )
