@@ -1,5 +1,5 @@
 -- What a session means, and what its changes do. Assumes nothing.
---   kept           the store of a session
+--   kept           a store of a session
 --   lists_kept     the store over lists that were made for it
 --   disk_reading   the disk of a session
 --   state          all that a session means
@@ -22,12 +22,12 @@ use Rattle.disk.specs.Disks.{zeros_reading, raw_reading, rescued_reading}
 use Rattle.fault.specs.declared.Fault.{Fault}
 use Rattle.lent.specs.Lists.{space_limit, lists_bytes, lists_limit}
 use Rattle.lent.specs.declared.lists.Lists.{Lists}
-use Rattle.lent.specs.declared.lists.Space.{Space}
 use Rattle.text.specs.Calls.{Asked}
 use Rattle.answer.specs.Records.{Told, told, mistaken}
 use Rattle.script.specs.States.{Kept, State, verdict, step, spoken}
 use Rattle.script.specs.declared.session.Base.{Base}
 use Rattle.script.specs.declared.session.Base.TheVariants as base
+use Rattle.script.specs.declared.session.Saved.{Saved}
 use Rattle.script.specs.declared.session.Session.{Session}
 use Rattle.script.specs.declared.outcome.Change.{Change}
 use Rattle.script.specs.declared.outcome.Change.TheVariants as change
@@ -35,9 +35,8 @@ use Rattle.script.specs.declared.outcome.Outcome.{Outcome}
 use Rattle.script.specs.declared.outcome.Unmet.{Unmet}
 use Rattle.script.specs.declared.outcome.Unmet.TheVariants as unmet
 
-abbrev pub kept : Option Space → List ℕ → Option Kept
-kept None bs = None
-kept (Some space) bs = Some (record { content = take (space_limit space) bs; limit = space_limit space })
+abbrev pub kept : Saved → Kept
+kept s = record { content = take (space_limit s.space) (vec_items s.content); limit = space_limit s.space }
 
 abbrev pub lists_kept : Lists → Kept
 lists_kept l = record { content = lists_bytes l; limit = lists_limit l }
@@ -48,7 +47,7 @@ disk_reading (base.Raw bs) = raw_reading (vec_items bs)
 disk_reading (base.Rescued bs ns) = rescued_reading (vec_items bs) (vec_items ns)
 
 abbrev pub state : Session → State
-state s = record { store = kept s.space (vec_items s.content); mounted = s.mounted; disk = disk_reading s.disk }
+state s = record { store = option_map kept s.store; mounted = s.mounted; disk = disk_reading s.disk }
 
 abbrev pub refilled : List ℕ → Option Kept → Option Kept
 refilled bs k = option_map (λ (k : Kept). record { content = take k.limit bs; limit = k.limit }) k
@@ -59,7 +58,7 @@ with_bytes bs s = record { store = refilled bs s.store; mounted = s.mounted; dis
 abbrev pub changed : Change → State → State
 changed change.Nothing s = s
 changed (change.Content bs) s = with_bytes (vec_items bs) s
-changed (change.Store space bs) s = record { store = kept (Some space) (vec_items bs); mounted = None; disk = s.disk }
+changed (change.Store new) s = record { store = Some (kept new); mounted = None; disk = s.disk }
 changed (change.Mount m) s = record { store = s.store; mounted = Some m; disk = s.disk }
 changed (change.Disk d) s = record { store = s.store; mounted = s.mounted; disk = disk_reading d }
 

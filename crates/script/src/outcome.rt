@@ -5,10 +5,10 @@ ghost use Rattle.script.specs.States.{filled as filled_of, verdict};
 ghost use Rattle.script.specs.declared.outcome.Unmet.TheVariants.{OutOfMemory};
 ghost use Rattle.script.specs.Sessions.{Left};
 
-use crate::session::{Base, Mounted};
+use crate::session::{Base, Mounted, Saved};
 use answer::Answer;
 use fault::Fault;
-use lent::{Space, bytes_of};
+use lent::bytes_of;
 use std::alloc::{AllocError, Global};
 use store::Store;
 
@@ -18,7 +18,7 @@ pub(crate) enum Change {
     // the store's bytes
     Content(Vec<u8>),
     // a new store, not mounted
-    Store(Space, Vec<u8>),
+    Store(Saved),
     Mount(Mounted),
     Disk(Base),
 }

@@ -7,7 +7,7 @@ ghost use Rattle.script.specs.States.{shows};
 ghost use Rattle.script.specs.Sessions.{state, Meets};
 
 use crate::outcome::{Change, Outcome, Unmet, filled, left, unchanged};
-use crate::session::Session;
+use crate::session::{Saved, Session};
 use answer::Answer;
 use lent::{BLANK, Lists, Space};
 use std::alloc::{AllocError, Global};
@@ -28,12 +28,12 @@ impl Session {
     // A new store; lists for which there is no memory are refused here, and not at the first call to the store.
     pub(crate) fn set_store(&self, space: Space, content: Vec<u8>) -> Result<Outcome, AllocError>
         ensures answer { IfOk result (λ o. o.answer ≡ Answer.Done) }
-        ensures change { IfOk result (λ o. o.change ≡ Change.Store space content) }
+        ensures change { IfOk result (λ o. o.change ≡ Change.Store (record { space = space; content = content })) }
     {
         let _lists = Lists::new(self.heap, space, content.as_slice())?;
         Ok(Outcome {
             answer: Answer::Done,
-            change: Change::Store(space, content),
+            change: Change::Store(Saved { space, content }),
         })
     }
 
