@@ -24,7 +24,7 @@ pub(crate) enum Base {
     Rescued(Vec<u8>, Vec<u64>),
 }
 
-// What a store means: the lists of a store are made for each call and lent to it. Content past their end is cut there.
+// What a store means, and no store: its lists are made for each call and lent to it. Content past their end is cut off.
 #[derive(Drop)]
 pub(crate) struct Saved {
     pub(crate) space: Space,
