@@ -1,7 +1,13 @@
--- Content laid out in lists is in use again as far as it fits. Assumes nothing.
-use Rattle.std.proofs.Common.{◌≡◌, ℕ, ◌+◌, ◌-◌, ◌≤◌, min, ◌⊎◌, List, [], ◌++◌, length, take, drop, replicate, sym, refl, ap, ◌∙◌, inl, inr, arith, length-drop, length-take, take-add}
+-- Content laid out in lists is in use again as far as it fits, and is read back whole. Assumes nothing.
+use Rattle.std.proofs.Common.{◌≡◌, ℕ, ◌+◌, ◌-◌, ◌≤◌, min, ◌⊎◌, List, [], ◌++◌, length, take, drop, replicate, Result, sym, refl, ap, ◌∙◌, inl, inr, arith, length-drop, length-take, take-add}
 use Rattle.std.proofs.lemmas.List.{append-nil, append_assoc, take_all, take_at, take_rest, drop_all}
 use Rattle.std.proofs.lemmas.Bool.{cases_lt}
+use Rattle.fault.specs.declared.Fault.{Fault}
+use Rattle.fault.specs.Outcomes.{Gives}
+use Rattle.byte_lists.specs.Runs.{run}
+use Rattle.store.specs.Stores.{load}
+use Rattle.store.specs.Calls.{after}
+use Rattle.store.proofs.Outcomes.{loads, left_after}
 use Rattle.lent.specs.Lists.{laid}
 
 -- the front of a list, with something behind it only if all of the list is in that front
@@ -40,6 +46,13 @@ behind bs m seam e = take_rest bs seam ∙ elim (cases_lt (length bs) m) [
 pub split : (bs front back : List ℕ) (m n seam : ℕ) → front ≡ laid m bs → seam ≡ min (length bs) m → back ≡ laid n (take (length bs - seam) (drop seam bs)) → take (length bs) (front ++ back) ≡ take (m + n) bs
 split bs front back m n seam f s b = ap (λ l. take (length bs) (l ++ back)) f ∙ ap (λ l. take (length bs) (laid m bs ++ l)) (b ∙ ap (laid n) (behind bs m seam s)) ∙ in_two bs m n
 
--- a list that was written over from end to end
-pub refilled : (out items : List ℕ) (n : ℕ) → length out ≡ n → take n (out ++ drop (length out) items) ≡ out
-refilled out items n e = take_at out (drop (length out) items) n e
+-- a run of all bytes
+all_run : (bs : List ℕ) (n : ℕ) → n ≡ length bs → run bs 0 n ≡ bs
+unfolding run
+all_run bs n e = take_all n bs (omega arith)
+
+-- a list that a read has written over from end to end
+pub read_whole : (r : Result (Unit {0}) Fault) (bs buffer out items : List ℕ) (n : ℕ) → Gives r (load bs 0 (length buffer)) buffer out → length buffer ≡ length bs → n ≡ length bs → take n (out ++ drop (length out) items) ≡ bs
+read_whole r bs buffer out items n g whole e =
+    let read : out ≡ bs = left_after r (load bs 0 (length buffer)) buffer out g ∙ ap (after buffer) (loads bs 0 (length buffer) bs (omega arith) (all_run bs (length buffer) whole)) in
+    take_at out (drop (length out) items) n (ap length read ∙ sym e) ∙ read

@@ -92,6 +92,7 @@ impl Lists {
 }
 
 // All bytes in use of a store, which are within its limit.
+#[tactic(auto, using(crate::proofs::Laying::read_whole))]
 pub fn bytes_of<S: Store>(heap: Global, s: &S) -> Result<Vec<u8>, AllocError>
     ensures items { IfOk result (λ v. v.items ≡ S.Store.bytes s.now) }
     ensures held { IfOk result (λ v. length v.items ≤ S.Store.limit s.now) }
