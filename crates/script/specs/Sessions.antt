@@ -12,7 +12,7 @@
 --   Found          an answer gives what is there, or the words that there is none; it may be that there was no memory
 --   Said           what a line gave and left is what its text says
 --   Spoken         what a line gave and left is what the text says; without memory nothing changed
-use Rattle.std.specs.Prelude.{◌≡◌, ℕ, List, take, Some, None, vec_items, string_bytes, Option, Result, String, MatchResult}
+use Rattle.std.specs.Prelude.{◌≡◌, ℕ, List, take, Some, None, vec_items, string_bytes, Option, Result, String, IfSome, MatchResult}
 use Rattle.std.specs.Option.{option_map}
 use Rattle.std.specs.declared.alloc.AllocError.{AllocError}
 use Rattle.std.specs.declared.alloc.Global.{Global}
@@ -70,10 +70,10 @@ tells (unmet.Refused f) = Some (refused f)
 tells (unmet.OutOfMemory e) = None
 
 abbrev pub Meets : State → Asked → Result Outcome Unmet → Type 0
-Meets s a r = MatchResult r (Stepped s a) λ e. (t : Told) → tells e ≡ Some t → step s a ≡ (t, s)
+Meets s a r = MatchResult r (Stepped s a) λ e. IfSome (tells e) λ t. step s a ≡ (t, s)
 
 abbrev pub Found : {T X : Type 0} → Result T Unmet → (T → X) → Option X → List ℕ → Type 0
-Found r view there none = MatchResult r (λ x. Some (view x) ≡ there) λ e. (t : Told) → tells e ≡ Some t → (None ≡ there) × (t ≡ mistaken none)
+Found r view there none = MatchResult r (λ x. Some (view x) ≡ there) λ e. IfSome (tells e) λ t. (None ≡ there) × (t ≡ mistaken none)
 
 pub record Said (s : State) (text : List ℕ) (o : Option (String Global)) (t : State) : Type 0 where
   pub line : option_map string_bytes o ≡ (spoken s text).0
