@@ -109,3 +109,7 @@ word_padded w small = padded_digits 8 w (omega arith) (omega arith) (omega arith
 -- what `{:016x}` writes of a number of 64 bits
 pub number_padded : (n : ℕ) → n < 2 ^ 64 → padded_integral (format_spec 32 0 4 16 (2 ^ 64 - 1)) false [] (digits 16 false n) ≡ hexadecimal (be_bytes 8 n)
 number_padded n small = padded_digits 16 n (omega arith) (omega arith) (omega arith) ∙ sym (in_bytes 8 n)
+
+-- what is left still completes what is written to the whole, a piece later
+pub a_piece_later : (done piece left rest whole : List ℕ) → piece ++ rest ≡ left → done ++ left ≡ whole → (done ++ piece) ++ rest ≡ whole
+a_piece_later done piece left rest whole p e = append_assoc done piece rest ∙ ap (λ l. done ++ l) p ∙ e

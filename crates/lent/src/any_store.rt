@@ -1,5 +1,4 @@
 // A flat or a split store.
-ghost use Rattle.std.specs.Prelude.{◌≡◌};
 ghost use Rattle.lent.specs.Lent.{any_bytes, any_limit, any_octets, any_held};
 
 use fault::Fault;

@@ -1,7 +1,7 @@
 // Lists for a store, made from the bytes that are to be in use, and the bytes of a store as a list again.
 ghost use Rattle.std.specs.Prelude.{◌≡◌, ◌-◌, ◌^◌, ◌≤◌, min, length, take, IfOk};
 ghost use Rattle.lent.specs.Lent.{any_bytes, any_limit};
-ghost use Rattle.lent.specs.Lists.{laid as laid_of, first_limit, second_limit, space_limit, lists_bytes, lists_limit};
+ghost use Rattle.lent.specs.Lists.{laid as laid_of, space_limit, lists_bytes, lists_limit};
 
 use crate::any_store::AnyStore;
 use std::alloc::{AllocError, Global};
@@ -17,11 +17,16 @@ pub enum Space {
     Split(u64, u64),
 }
 
+// A flat store has one list, a split store two.
+#[derive(Drop)]
+enum Parts {
+    One(Vec<u8>),
+    Two(Vec<u8>, Vec<u8>),
+}
+
 #[derive(Drop)]
 pub struct Lists {
-    space: Space,
-    front: Vec<u8>,
-    back: Vec<u8>,
+    parts: Parts,
     used: usize,
 }
 
@@ -35,44 +40,36 @@ fn laid(heap: Global, limit: u64, content: &[u8]) -> Result<Vec<u8>, AllocError>
 }
 
 impl Space {
-    fn first(self) -> u64
-        ensures value { result ≡ first_limit self }
-    {
-        match self {
-            Space::Flat(limit) => limit,
-            Space::Split(first, _) => first,
-        }
-    }
-
-    // A flat store has no second list.
-    fn second(self) -> u64
-        ensures value { result ≡ second_limit self }
-    {
-        match self {
-            Space::Flat(_) => 0,
-            Space::Split(_, second) => second,
-        }
-    }
-
-    // The length of both lists together, held at the largest of 64 bits.
+    // The length of the lists together, held at the largest of 64 bits.
     pub fn limit(self) -> u64
         ensures value { result ≡ min (space_limit self) (2 ^ 64 - 1) }
     {
-        self.first().saturating_add(self.second())
+        match self {
+            Space::Flat(limit) => limit,
+            Space::Split(first, second) => first.saturating_add(second),
+        }
     }
 }
 
 impl Lists {
     // Lists with the content in use, as far as it fits.
+    #[tactic(auto, using(crate::proofs::Laying::flat, crate::proofs::Laying::split))]
     pub fn new(heap: Global, space: Space, content: &[u8]) -> Result<Lists, AllocError>
         ensures bytes { IfOk result (λ l. lists_bytes l ≡ take (space_limit space) content.now) }
         ensures limit { IfOk result (λ l. lists_limit l ≡ space_limit space) }
     {
-        let seam = content.len().min(space.first() as usize);
+        let parts = match space {
+            Space::Flat(limit) => Parts::One(laid(heap, limit, content)?),
+            Space::Split(first, second) => {
+                let seam = content.len().min(first as usize);
+                Parts::Two(
+                    laid(heap, first, content)?,
+                    laid(heap, second, &content[seam..])?,
+                )
+            }
+        };
         Ok(Lists {
-            space,
-            front: laid(heap, space.first(), content)?,
-            back: laid(heap, space.second(), &content[seam..content.len()])?,
+            parts,
             used: content.len(),
         })
     }
@@ -83,11 +80,11 @@ impl Lists {
         ensures limit { any_limit result ≡ lists_limit self.old }
     {
         let used = self.used;
-        match self.space {
-            Space::Flat(_) => AnyStore::Flat(FlatStore::new(self.front.as_mut_slice(), used)),
-            Space::Split(_, _) => AnyStore::Split(SplitStore::new(
-                self.front.as_mut_slice(),
-                self.back.as_mut_slice(),
+        match &mut self.parts {
+            Parts::One(list) => AnyStore::Flat(FlatStore::new(list.as_mut_slice(), used)),
+            Parts::Two(front, back) => AnyStore::Split(SplitStore::new(
+                front.as_mut_slice(),
+                back.as_mut_slice(),
                 used,
             )),
         }
@@ -95,6 +92,7 @@ impl Lists {
 }
 
 // All bytes in use of a store, which are within its limit.
+#[tactic(auto, using(crate::proofs::Laying::read_whole))]
 pub fn bytes_of<S: Store>(heap: Global, s: &S) -> Result<Vec<u8>, AllocError>
     ensures items { IfOk result (λ v. v.items ≡ S.Store.bytes s.now) }
     ensures held { IfOk result (λ v. length v.items ≤ S.Store.limit s.now) }

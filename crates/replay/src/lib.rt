@@ -32,12 +32,12 @@ fn compare(rt: &HostRuntime, name: &str) -> anyhow::Result<Outcome> {
         found.lines = found.lines.saturating_add(1);
         if wanted.next() == Some(given.as_str()) {
             found.equal = found.equal.saturating_add(1);
-        } else if found.first.is_none() {
-            found.first = Some(found.lines);
+        } else {
+            found.first.get_or_insert(found.lines);
         }
     }
-    if wanted.next().is_some() && found.first.is_none() {
-        found.first = Some(found.lines.saturating_add(1));
+    if wanted.next().is_some() {
+        found.first.get_or_insert(found.lines.saturating_add(1));
     }
     Ok(found)
 }

@@ -3,8 +3,8 @@ use Rattle.std.proofs.Common.{◌≡◌, ℕ, min, List, length, take, sym, ap, 
 use Rattle.std.proofs.lemmas.List.{take_all}
 use Rattle.std.proofs.lemmas.Bool.{cases_lt}
 
-pub take-held : (xs : List ℕ) (limit n : ℕ) → min (length xs) n ≡ min (length xs) limit → take n xs ≡ take limit xs
-take-held xs limit n e = elim (cases_lt n (length xs)) [
+pub take_held : (xs : List ℕ) (limit n : ℕ) → min (length xs) n ≡ min (length xs) limit → take n xs ≡ take limit xs
+take_held xs limit n e = elim (cases_lt n (length xs)) [
   | inl lt ↦ let same : n ≡ limit = omega arith in ap (λ k. take k xs) same
   | inr le ↦ take_all n xs le ∙ sym (take_all limit xs (omega arith))
 ]

@@ -1,5 +1,3 @@
-mod Steps
 mod Fronts
 mod ReadBack
-mod Rooms
 mod Examples

@@ -1,33 +1,31 @@
 -- What a session means, and what its changes do. Assumes nothing.
---   kept           the store of a session
+--   kept           a store of a session
 --   lists_kept     the store over lists that were made for it
 --   disk_reading   the disk of a session
 --   state          all that a session means
 --   refilled       a store with other bytes, as far as they fit
 --   with_bytes     a state with a store so refilled
 --   changed        a state after a change
---   Left           an outcome is that of a call to a store: what the call answered, and the bytes after it
---   Does           an outcome is what a function of states says: what it answers, and the state after what it changes
 --   Stepped        an outcome is that of a step: what it answers, and the state after what it changes
---   Meets          an answer gives the outcome of a step, or the words of the mistake that the step is; it may be that there was no memory
+--   tells          what a call without an outcome tells; nothing, if there was no memory
+--   Meets          an answer gives the outcome of a step, or what the step tells where it changes nothing; it may be that there was no memory
 --   Found          an answer gives what is there, or the words that there is none; it may be that there was no memory
 --   Said           what a line gave and left is what its text says
 --   Spoken         what a line gave and left is what the text says; without memory nothing changed
-use Rattle.std.specs.Prelude.{◌≡◌, ℕ, ◌≤◌, List, length, take, Some, None, vec_items, string_bytes, Option, Result, String, MatchResult}
+use Rattle.std.specs.Prelude.{◌≡◌, ℕ, List, take, Some, None, vec_items, string_bytes, Option, Result, String, IfSome, MatchResult}
 use Rattle.std.specs.Option.{option_map}
 use Rattle.std.specs.declared.alloc.AllocError.{AllocError}
 use Rattle.std.specs.declared.alloc.Global.{Global}
 use Rattle.disk.specs.Readings.{Reading}
 use Rattle.disk.specs.Disks.{zeros_reading, raw_reading, rescued_reading}
-use Rattle.fault.specs.declared.Fault.{Fault}
 use Rattle.lent.specs.Lists.{space_limit, lists_bytes, lists_limit}
 use Rattle.lent.specs.declared.lists.Lists.{Lists}
-use Rattle.lent.specs.declared.lists.Space.{Space}
 use Rattle.text.specs.Calls.{Asked}
-use Rattle.answer.specs.Records.{Told, told, mistaken}
-use Rattle.script.specs.States.{Kept, State, verdict, step, spoken}
+use Rattle.answer.specs.Records.{Told, told, refused, mistaken}
+use Rattle.script.specs.States.{Kept, State, step, spoken}
 use Rattle.script.specs.declared.session.Base.{Base}
 use Rattle.script.specs.declared.session.Base.TheVariants as base
+use Rattle.script.specs.declared.session.Saved.{Saved}
 use Rattle.script.specs.declared.session.Session.{Session}
 use Rattle.script.specs.declared.outcome.Change.{Change}
 use Rattle.script.specs.declared.outcome.Change.TheVariants as change
@@ -35,9 +33,8 @@ use Rattle.script.specs.declared.outcome.Outcome.{Outcome}
 use Rattle.script.specs.declared.outcome.Unmet.{Unmet}
 use Rattle.script.specs.declared.outcome.Unmet.TheVariants as unmet
 
-abbrev pub kept : Option Space → List ℕ → Option Kept
-kept None bs = None
-kept (Some space) bs = Some (record { content = take (space_limit space) bs; limit = space_limit space })
+abbrev pub kept : Saved → Kept
+kept s = record { content = take (space_limit s.space) (vec_items s.content); limit = space_limit s.space }
 
 abbrev pub lists_kept : Lists → Kept
 lists_kept l = record { content = lists_bytes l; limit = lists_limit l }
@@ -48,7 +45,7 @@ disk_reading (base.Raw bs) = raw_reading (vec_items bs)
 disk_reading (base.Rescued bs ns) = rescued_reading (vec_items bs) (vec_items ns)
 
 abbrev pub state : Session → State
-state s = record { store = kept s.space (vec_items s.content); mounted = s.mounted; disk = disk_reading s.disk }
+state s = record { store = option_map kept s.store; mounted = s.mounted; disk = disk_reading s.disk }
 
 abbrev pub refilled : List ℕ → Option Kept → Option Kept
 refilled bs k = option_map (λ (k : Kept). record { content = take k.limit bs; limit = k.limit }) k
@@ -59,28 +56,24 @@ with_bytes bs s = record { store = refilled bs s.store; mounted = s.mounted; dis
 abbrev pub changed : Change → State → State
 changed change.Nothing s = s
 changed (change.Content bs) s = with_bytes (vec_items bs) s
-changed (change.Store space bs) s = record { store = kept (Some space) (vec_items bs); mounted = None; disk = s.disk }
+changed (change.Store new) s = record { store = Some (kept new); mounted = None; disk = s.disk }
 changed (change.Mount m) s = record { store = s.store; mounted = Some m; disk = s.disk }
 changed (change.Disk d) s = record { store = s.store; mounted = s.mounted; disk = disk_reading d }
-
-pub record Left (r : Result (Unit {0}) Fault) (bs : List ℕ) (limit : ℕ) (o : Outcome) : Type 0 where
-  pub answer : told o.answer ≡ verdict r
-  pub state : (s : State) → changed o.change s ≡ with_bytes bs s
-  pub held : length bs ≤ limit
-
-pub record Does (f : State → Told × State) (o : Outcome) : Type 0 where
-  pub answer : (s : State) → told o.answer ≡ (f s).0
-  pub state : (s : State) → changed o.change s ≡ (f s).1
 
 pub record Stepped (s : State) (a : Asked) (o : Outcome) : Type 0 where
   pub answer : told o.answer ≡ (step s a).0
   pub state : changed o.change s ≡ (step s a).1
 
+abbrev pub tells : Unmet → Option Told
+tells (unmet.Mistake words) = Some (mistaken words.now)
+tells (unmet.Refused f) = Some (refused f)
+tells (unmet.OutOfMemory e) = None
+
 abbrev pub Meets : State → Asked → Result Outcome Unmet → Type 0
-Meets s a r = MatchResult r (Stepped s a) λ e. (words : _) → e ≡ unmet.Mistake words → step s a ≡ (mistaken words.now, s)
+Meets s a r = MatchResult r (Stepped s a) λ e. IfSome (tells e) λ t. step s a ≡ (t, s)
 
 abbrev pub Found : {T X : Type 0} → Result T Unmet → (T → X) → Option X → List ℕ → Type 0
-Found r view there none = MatchResult r (λ x. Some (view x) ≡ there) λ e. (words : _) → e ≡ unmet.Mistake words → (None ≡ there) × (words.now ≡ none)
+Found r view there none = MatchResult r (λ x. Some (view x) ≡ there) λ e. IfSome (tells e) λ t. (None ≡ there) × (t ≡ mistaken none)
 
 pub record Said (s : State) (text : List ℕ) (o : Option (String Global)) (t : State) : Type 0 where
   pub line : option_map string_bytes o ≡ (spoken s text).0

@@ -4,7 +4,6 @@
 --   empty      the state at the start
 --   verdict    what a call told that may be refused
 --   shows      what a call told that may be refused and else shows bytes
---   filled     the same, from the call's answer and its buffer
 --   lists      what a call told that may be refused and else lists words
 --   blank_words   a list of words before a call
 --   with_store, with_disk   the state with a new store, with a new disk
@@ -54,10 +53,6 @@ verdict (Err f) = refused f
 abbrev pub shows : Result (List ℕ) Fault → Told
 shows (Ok bs) = bytes bs
 shows (Err f) = refused f
-
-abbrev pub filled : Result (Unit {0}) Fault → List ℕ → Told
-filled (Ok u) buffer = bytes buffer
-filled (Err f) buffer = refused f
 
 abbrev pub lists : Result (List ℕ) Fault → Told
 lists (Ok ws) = listed ws

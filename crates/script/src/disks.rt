@@ -1,25 +1,14 @@
 // Calls that make a disk or ask one.
-ghost use Rattle.std.specs.Prelude.{◌≡◌, IfOk};
+ghost use Rattle.std.specs.Prelude.{◌≡◌};
 ghost use Rattle.lent.specs.Lent.{base_reading};
 ghost use Rattle.text.specs.Calls as ask;
-ghost use Rattle.script.specs.Sessions.{state, disk_reading, Stepped};
+ghost use Rattle.script.specs.Sessions.{state, disk_reading, Meets, Stepped};
 
-use crate::outcome::{Change, Outcome, filled, unchanged};
+use crate::outcome::{Outcome, Unmet, unchanged};
 use crate::session::{Base, Session};
 use answer::Answer;
 use disk::{Disk, RawDisk, RescuedDisk, ZerosDisk};
 use lent::{BLANK, BaseDisk};
-use std::alloc::AllocError;
-
-pub(crate) fn set_disk(disk: Base) -> Outcome
-    ensures answer { result.answer ≡ Answer.Done }
-    ensures change { result.change ≡ Change.Disk disk }
-{
-    Outcome {
-        answer: Answer::Done,
-        change: Change::Disk(disk),
-    }
-}
 
 impl Base {
     // The disk, lent.
@@ -43,12 +32,12 @@ impl Session {
         unchanged(Answer::Number(self.disk.lend().sectors()))
     }
 
-    pub(crate) fn disk_read(&self, sector: u64) -> Result<Outcome, AllocError>
-        ensures stepped { IfOk result (Stepped (state self.now) (ask.disk_read sector)) }
+    pub(crate) fn disk_read(&self, sector: u64) -> Result<Outcome, Unmet>
+        ensures stepped { Meets (state self.now) (ask.disk_read sector) result }
     {
         let mut buffer = [BLANK; 512];
-        let r = self.disk.lend().read_sector(sector, &mut buffer);
+        self.disk.lend().read_sector(sector, &mut buffer)?;
         let buffer = Vec::from_slice(self.heap, &buffer)?;
-        Ok(unchanged(filled(r, buffer)))
+        Ok(unchanged(Answer::Bytes(buffer)))
     }
 }

@@ -1,8 +1,9 @@
 // Lines: from a line of text to its record line.
-ghost use Rattle.std.specs.Prelude.{◌≡◌, ◌^◌, ◌<◌, length, take, IfOk, IfNone, string_bytes};
+ghost use Rattle.std.specs.Prelude.{◌≡◌, take, IfOk, IfNone, string_bytes};
+ghost use Rattle.lent.specs.Lists.{space_limit};
 ghost use Rattle.answer.specs.Records.{told, record_line};
 ghost use Rattle.script.specs.States.{in_use};
-ghost use Rattle.script.specs.Sessions.{kept, state, changed, Spoken};
+ghost use Rattle.script.specs.Sessions.{state, changed, Spoken};
 
 use crate::outcome::{Change, Outcome};
 use crate::session::Session;
@@ -11,22 +12,12 @@ use lent::Space;
 use std::alloc::AllocError;
 use text::call_of;
 
-// The front of a list, up to a limit; no list has more bytes than 64 bits count.
-fn front(content: &[u8], limit: u64) -> &[u8]
-    ensures value { result.now ≡ take limit content.now }
-    ensures fits { length content.now < 2 ^ 64 }
+// The bytes in use of a store with this content; no list has more bytes than 64 bits count.
+#[tactic(auto, using(crate::proofs::Fronts::take_held))]
+fn in_use(space: Space, content: &[u8]) -> &[u8]
+    ensures value { result.now ≡ take (space_limit space) content.now }
 {
-    &content[0..content.len().min(limit as usize)]
-}
-
-// The bytes in use of a store with this content.
-fn in_use(space: Option<Space>, content: &[u8]) -> &[u8]
-    ensures value { result.now ≡ in_use (kept space content.now) }
-{
-    match space {
-        Some(space) => front(content, space.limit()),
-        None => front(content, 0),
-    }
+    &content[..content.len().min(space.limit() as usize)]
 }
 
 impl Session {
@@ -34,10 +25,11 @@ impl Session {
     fn record_after(&self, answer: &Answer, change: &Change) -> Result<String, AllocError>
         ensures value { IfOk result (λ s. string_bytes s ≡ record_line (told answer.now) (in_use (changed change.now (state self.now)).store)) }
     {
-        let content = match change {
-            Change::Content(new) => in_use(self.space, new.as_slice()),
-            Change::Store(space, new) => in_use(Some(*space), new.as_slice()),
-            _ => in_use(self.space, self.content.as_slice()),
+        let content = match (change, &self.store) {
+            (Change::Store(new), _) => in_use(new.space, new.content.as_slice()),
+            (Change::Content(new), Some(old)) => in_use(old.space, new.as_slice()),
+            (_, Some(old)) => in_use(old.space, old.content.as_slice()),
+            (_, None) => &[],
         };
         record(self.heap, answer, content)
     }
@@ -48,10 +40,13 @@ impl Session {
     {
         match change {
             Change::Nothing => {}
-            Change::Content(content) => self.content = content,
-            Change::Store(space, content) => {
-                self.space = Some(space);
-                self.content = content;
+            Change::Content(content) => {
+                if let Some(store) = &mut self.store {
+                    store.content = content;
+                }
+            }
+            Change::Store(store) => {
+                self.store = Some(store);
                 self.mounted = None;
             }
             Change::Mount(mounted) => self.mounted = Some(mounted),
@@ -59,6 +54,7 @@ impl Session {
         }
     }
 
+    #[tactic(auto, unfolding(crate::specs::States::spoken))]
     // The record line of a call; none for a line without one. Without memory for it, nothing has happened.
     pub fn line(&mut self, text: &str) -> Result<Option<String>, AllocError>
         ensures spoken { Spoken (state self.old) text.now result (state self.new) }

@@ -1,16 +1,11 @@
 // What a call answered and what it changes, before anything is changed.
-ghost use Rattle.std.specs.Prelude.{◌≡◌, IfOk};
-ghost use Rattle.answer.specs.Records.{told};
-ghost use Rattle.script.specs.States.{filled as filled_of, verdict};
-ghost use Rattle.script.specs.declared.outcome.Unmet.TheVariants.{OutOfMemory};
-ghost use Rattle.script.specs.Sessions.{Left};
+ghost use Rattle.std.specs.Prelude.{◌≡◌};
+ghost use Rattle.script.specs.declared.outcome.Unmet.TheVariants.{Refused, OutOfMemory};
 
-use crate::session::{Base, Mounted};
+use crate::session::{Base, Mounted, Saved};
 use answer::Answer;
 use fault::Fault;
-use lent::{Space, bytes_of};
-use std::alloc::{AllocError, Global};
-use store::Store;
+use std::alloc::AllocError;
 
 #[derive(Drop)]
 pub(crate) enum Change {
@@ -18,7 +13,7 @@ pub(crate) enum Change {
     // the store's bytes
     Content(Vec<u8>),
     // a new store, not mounted
-    Store(Space, Vec<u8>),
+    Store(Saved),
     Mount(Mounted),
     Disk(Base),
 }
@@ -34,7 +29,16 @@ pub(crate) struct Outcome {
 pub(crate) enum Unmet {
     // it has nothing to speak of, as these words say
     Mistake(&'static str),
+    Refused(Fault),
     OutOfMemory(AllocError),
+}
+
+impl From<Fault> for Unmet {
+    ghost from_gives = { λ f u. u ≡ Refused f };
+
+    fn from(f: Fault) -> Unmet {
+        Unmet::Refused(f)
+    }
 }
 
 impl From<AllocError> for Unmet {
@@ -56,44 +60,13 @@ pub(crate) fn unchanged(answer: Answer) -> Outcome
     }
 }
 
-// A line that is no call, or a call that has nothing to speak of.
-pub(crate) fn mistake(words: &'static str) -> Outcome
-    ensures answer { result.answer ≡ Answer.Mistake words.entry }
-    ensures change { result.change ≡ Change.Nothing }
+// A call that was done, and what it changes.
+pub(crate) fn done(change: Change) -> Outcome
+    ensures answer { result.answer ≡ Answer.Done }
+    ensures change { result.change ≡ change }
 {
-    unchanged(Answer::Mistake(words))
-}
-
-fn done(r: Result<(), Fault>) -> Answer
-    ensures told { told result ≡ verdict r }
-{
-    match r {
-        Ok(()) => Answer::Done,
-        Err(f) => Answer::Refused(f),
+    Outcome {
+        answer: Answer::Done,
+        change,
     }
-}
-
-// A refused read has left its buffer as it was, as its contract says, so the buffer is not looked at.
-pub(crate) fn filled(r: Result<(), Fault>, buffer: Vec<u8>) -> Answer
-    ensures told { told result ≡ filled_of r buffer.items }
-{
-    match r {
-        Ok(()) => Answer::Bytes(buffer),
-        Err(f) => Answer::Refused(f),
-    }
-}
-
-// The outcome of a call to a store: what it answered, and the store's bytes after it.
-pub(crate) fn left<S: Store>(
-    heap: Global,
-    r: Result<(), Fault>,
-    s: &S,
-) -> Result<Outcome, AllocError>
-    ensures left { IfOk result (Left r (S.Store.bytes s.now) (S.Store.limit s.now)) }
-{
-    let content = bytes_of(heap, s)?;
-    Ok(Outcome {
-        answer: done(r),
-        change: Change::Content(content),
-    })
 }

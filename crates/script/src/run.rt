@@ -3,15 +3,15 @@ ghost use Rattle.std.specs.Prelude.{IfOk};
 ghost use Rattle.text.specs.Calls.{meant};
 ghost use Rattle.script.specs.Sessions.{state, Meets, Stepped};
 
-use crate::disks::set_disk;
-use crate::outcome::{Outcome, Unmet, mistake};
+use crate::outcome::{Change, Outcome, Unmet, done, unchanged};
 use crate::session::{Base, Session};
+use answer::Answer;
 use lent::Space;
 use std::alloc::AllocError;
 use text::Call;
 
 impl Session {
-    // The outcome of a call that has something to speak of.
+    // The outcome of a call that has something to speak of and is not refused.
     fn met(&self, call: Call) -> Result<Outcome, Unmet>
         ensures stepped { Meets (state self.now) (meant call) result }
     {
@@ -27,11 +27,13 @@ impl Session {
             Call::StoreRead { first, count } => self.store_read(first, count),
             Call::StoreReplace { first, new } => self.store_replace(first, new.as_slice()),
             Call::StoreGrow { length } => self.store_grow(length),
-            Call::DiskZeros { sectors } => Ok(set_disk(Base::Zeros(sectors))),
-            Call::DiskRaw { content } => Ok(set_disk(Base::Raw(content))),
-            Call::DiskRescued { content, spoiled } => Ok(set_disk(Base::Rescued(content, spoiled))),
+            Call::DiskZeros { sectors } => Ok(done(Change::Disk(Base::Zeros(sectors)))),
+            Call::DiskRaw { content } => Ok(done(Change::Disk(Base::Raw(content)))),
+            Call::DiskRescued { content, spoiled } => Ok(done(Change::Disk(Base::Rescued(
+                content, spoiled,
+            )))),
             Call::DiskSectors => Ok(self.disk_sectors()),
-            Call::DiskRead { sector } => Ok(self.disk_read(sector)?),
+            Call::DiskRead { sector } => self.disk_read(sector),
             Call::Create {
                 version,
                 bits,
@@ -47,13 +49,14 @@ impl Session {
         }
     }
 
-    // A call that has nothing to speak of is a mistake, which is an outcome too.
+    // A mistake and a refusal are outcomes too, which change nothing.
     pub(crate) fn run(&self, call: Call) -> Result<Outcome, AllocError>
         ensures stepped { IfOk result (Stepped (state self.now) (meant call)) }
     {
         match self.met(call) {
             Ok(outcome) => Ok(outcome),
-            Err(Unmet::Mistake(words)) => Ok(mistake(words)),
+            Err(Unmet::Mistake(words)) => Ok(unchanged(Answer::Mistake(words))),
+            Err(Unmet::Refused(fault)) => Ok(unchanged(Answer::Refused(fault))),
             Err(Unmet::OutOfMemory(e)) => Err(e),
         }
     }

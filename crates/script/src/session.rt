@@ -1,5 +1,5 @@
 // A session: the store, the mount and the disk that the lines speak of.
-ghost use Rattle.std.specs.Prelude.{◌≡◌, codes, vec_len};
+ghost use Rattle.std.specs.Prelude.{◌≡◌, None, codes};
 ghost use Rattle.script.specs.States.{empty};
 ghost use Rattle.script.specs.Sessions.{lists_kept, state, Found};
 
@@ -24,12 +24,17 @@ pub(crate) enum Base {
     Rescued(Vec<u8>, Vec<u64>),
 }
 
-// It holds what a store means, and no store: the lists of a store are made for each call and lent to it.
+// What a store means, and no store: its lists are made for each call and lent to it. Content past their end is cut off.
+#[derive(Drop)]
+pub(crate) struct Saved {
+    pub(crate) space: Space,
+    pub(crate) content: Vec<u8>,
+}
+
 #[derive(Drop)]
 pub struct Session {
     pub(crate) heap: Global,
-    pub(crate) space: Option<Space>,
-    pub(crate) content: Vec<u8>,
+    pub(crate) store: Option<Saved>,
     pub(crate) mounted: Option<Mounted>,
     pub(crate) disk: Base,
 }
@@ -38,12 +43,11 @@ impl Session {
     // No store, no mount, and a disk of no sectors.
     pub fn new(heap: Global) -> Session
         ensures empty { state result ≡ empty }
-        ensures bare { vec_len result.content ≡ 0 }
+        ensures bare { result.store ≡ None }
     {
         Session {
             heap,
-            space: None,
-            content: Vec::new(heap),
+            store: None,
             mounted: None,
             disk: Base::Zeros(0),
         }
@@ -53,8 +57,8 @@ impl Session {
     pub(crate) fn lists(&self) -> Result<Lists, Unmet>
         ensures kept { Found result lists_kept (state self.now).store (codes "no store") }
     {
-        let space = self.space.ok_or(Unmet::Mistake("no store"))?;
-        Ok(Lists::new(self.heap, space, self.content.as_slice())?)
+        let store = self.store.as_ref().ok_or(Unmet::Mistake("no store"))?;
+        Ok(Lists::new(self.heap, store.space, store.content.as_slice())?)
     }
 
     pub(crate) fn mounted(&self) -> Result<Mounted, Unmet>

@@ -2,7 +2,7 @@
 ghost use Rattle.std.specs.Prelude.{◌≡◌, IfOk, vec_items};
 ghost use Rattle.std.specs.Option.{option_map};
 ghost use Rattle.text.specs.declared.verbs.Verb.TheVariants as verbs;
-ghost use Rattle.text.specs.Words.{words};
+ghost use Rattle.text.specs.Words.{words, nth};
 ghost use Rattle.text.specs.Values.{Tells};
 ghost use Rattle.text.specs.Calls.{meant, number_at, number_or, bytes_at, bytes_or, numbers_at, parsed, heard};
 
@@ -95,10 +95,17 @@ impl<'a> Model for Line<'a> {
 }
 
 impl Line<'_> {
+    // A word that may not be left out.
+    fn word(&self, i: usize) -> Result<&[u8], Misread>
+        ensures value { Tells result (λ w. w.now) (nth i self.now) }
+    {
+        word(self.text, i).ok_or(Misread::Misspelt)
+    }
+
     fn number(&self, i: usize) -> Result<u64, Misread>
         ensures value { Tells result (λ n. n) (number_at self.now i) }
     {
-        number(word(self.text, i).ok_or(Misread::Misspelt)?)
+        number(self.word(i)?)
     }
 
     // A number that may be left out.
@@ -114,8 +121,7 @@ impl Line<'_> {
     fn bytes(&self, i: usize, form: Form) -> Result<Vec<u8>, Misread>
         ensures value { Tells result vec_items (bytes_at self.now i form) }
     {
-        let w = word(self.text, i).ok_or(Misread::Misspelt)?;
-        spelled(self.heap, w, form)
+        spelled(self.heap, self.word(i)?, form)
     }
 
     // Bytes that are left out are none.
@@ -131,8 +137,7 @@ impl Line<'_> {
     fn numbers(&self, i: usize) -> Result<Vec<u64>, Misread>
         ensures value { Tells result vec_items (numbers_at self.now i) }
     {
-        let w = word(self.text, i).ok_or(Misread::Misspelt)?;
-        numbers(self.heap, w)
+        numbers(self.heap, self.word(i)?)
     }
 
     fn store_flat(&self) -> Result<Call, Misread>

@@ -2,7 +2,7 @@ use Rattle.std.proofs.Common.{◌≡◌, ℕ, ◌+◌, ◌^◌, ◌<◌, List, �
 use Rattle.std.proofs.Output.{has_written_append}
 use Rattle.std.proofs.lemmas.List.{at_drop_more}
 use Rattle.answer.specs.Records.{more_words, words_shown}
-use Rattle.answer.proofs.Digits.{word_digits, word_padded}
+use Rattle.answer.proofs.Digits.{word_digits, word_padded, a_piece_later}
 use Rattle.answer.proofs.records.WordsDisplay.fmt.Goals as goal
 
 next_word : (ws : List ℕ) (i : ℕ) → i < length ws → get_or ws i 0 < 2 ^ 32 → (codes "," ++ word_digits (get_or ws i 0)) ++ more_words (drop (i + 1) ws) ≡ more_words (drop i ws)
@@ -22,5 +22,5 @@ loop-w-preserved g c = λ plain.
     let shown = codes "," ++ word_digits (get_or ws c.loop-w.w-index 0) in (
       now.0 ++ shown,
       has_written_append _ _ _ _ _ _ now.1 (search rules),
-      append_assoc now.0 shown _ ∙ ap (λ l. now.0 ++ l) (next_word ws c.loop-w.w-index c.loop-w-test.true (omega arith)) ∙ now.2,
+      a_piece_later now.0 shown _ _ _ (next_word ws c.loop-w.w-index c.loop-w-test.true (omega arith)) now.2,
     )
