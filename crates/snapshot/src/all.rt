@@ -11,7 +11,7 @@ use format::Numbers;
 use store::Store;
 
 // The records in their order; an image has at most 64.
-#[derive(Drop)]
+#[derive(Clone, Drop)]
 pub struct Records {
     list: ArrayVec<Snapshot, 64>,
 }

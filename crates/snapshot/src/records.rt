@@ -21,7 +21,7 @@ pub struct Head {
 }
 
 // A good record: where it begins, the numbers that it begins with, and its id.
-#[derive(Drop, Default, PartialEq, Eq, Debug)]
+#[derive(Clone, Drop, Default, PartialEq, Eq, Debug)]
 pub struct Snapshot {
     pub place: u64,
     pub head: Head,
