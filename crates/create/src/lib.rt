@@ -192,7 +192,7 @@ fn wanted(version: u32, bits: u32, size: u64, letters: usize) -> Numbers
     ensures judged { (len limit : ℕ) → create_judged result len limit ≡ create_judged (wanted_of version bits size letters) len limit }
     ensures granted { (len limit : ℕ) → create_judged result len limit ≡ Ok tt → result ≡ wanted_of version bits size letters }
 {
-    let letters = letters.min(u32::MAX as usize) as u32;
+    let letters = u32::try_from(letters).unwrap_or(u32::MAX);
     let mut n = Numbers {
         version,
         name: name_place(version, letters),
@@ -211,7 +211,7 @@ fn wanted(version: u32, bits: u32, size: u64, letters: usize) -> Numbers
         order: 4,
         header: header_length(version),
     };
-    n.entries = n.needed_entries().min(u32::MAX as u64) as u32;
+    n.entries = u32::try_from(n.needed_entries()).unwrap_or(u32::MAX);
     n.refcounts = n.cluster_size();
     n.l1 = 3 * n.cluster_size();
     n
