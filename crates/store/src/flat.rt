@@ -1,5 +1,5 @@
 // The flat store: one byte list of the caller's, its front in use.
-ghost use Rattle.std.specs.Prelude.{◌≡◌, length, take};
+ghost use Rattle.std.specs.Prelude.{◌≡◌, ◌≤◌, length, take};
 ghost use Rattle.byte_lists.specs.Runs.{EachOctet};
 
 use crate::Store;
@@ -11,6 +11,7 @@ pub struct FlatStore<'a> {
     list: &'a mut [u8],
     used: usize,
     ghost octets: { EachOctet list.now },
+    ghost most: { used ≤ length list.now },
 }
 
 impl<'a> FlatStore<'a> {
@@ -21,13 +22,8 @@ impl<'a> FlatStore<'a> {
         ensures bytes { flat_bytes result ≡ take used list.old }
         ensures limit { flat_limit result ≡ length list.old }
     {
+        let used = used.min(list.len());
         FlatStore { list, used }
-    }
-
-    fn in_use(&self) -> usize
-        ensures value { result ≡ length (flat_bytes self.now) }
-    {
-        self.used.min(self.list.len())
     }
 }
 
@@ -43,7 +39,7 @@ impl Store for FlatStore<'_> {
     ghost held = { flat_held };
 
     fn length(&self) -> u64 {
-        self.in_use() as u64
+        self.used as u64
     }
 
     fn limit(&self) -> u64 {
@@ -51,21 +47,17 @@ impl Store for FlatStore<'_> {
     }
 
     fn read(&self, first: u64, out: &mut [u8]) -> Result<(), Fault> {
-        let used = self.in_use();
-        read_from(&self.list[0..used], first, out)
+        read_from(&self.list[0..self.used], first, out)
     }
 
     fn replace(&mut self, first: u64, new: &[u8]) -> Result<(), Fault> {
-        let used = self.in_use();
-        replace_in(&mut self.list[0..used], first, new)
+        replace_in(&mut self.list[0..self.used], first, new)
     }
 
     fn grow(&mut self, length: u64) -> Result<(), Fault> {
-        let used = self.in_use();
-        if length < used as u64 || length > self.list.len() as u64 {
-            return Err(Fault::new(Reason::Growth, Layer::Store, length));
-        }
-        clear_run(self.list, used, length as usize - used);
+        Layer::Store.demand(self.used as u64 <= length, Reason::Growth, length)?;
+        Layer::Store.demand(length <= self.limit(), Reason::Growth, length)?;
+        clear_run(self.list, self.used, length as usize - self.used);
         self.used = length as usize;
         Ok(())
     }

@@ -100,9 +100,8 @@ impl Store for SplitStore<'_> {
 
     fn grow(&mut self, length: u64) -> Result<(), Fault> {
         let used = self.in_use();
-        if length < used as u64 || length > self.most() as u64 {
-            return Err(Fault::new(Reason::Growth, Layer::Store, length));
-        }
+        Layer::Store.demand(used as u64 <= length, Reason::Growth, length)?;
+        Layer::Store.demand(length <= self.limit(), Reason::Growth, length)?;
         let n = length as usize - used;
         let Cut { before, low, high } = Cut::across(used, n, self.front.len());
         clear_run(self.front, low, before);

@@ -1,4 +1,6 @@
 use Rattle.std.proofs.Common.{◌≡◌, ◌-◌, ◌≤◌, ◌++◌, length, take, sym, ap, ◌∙◌, arith, length-append}
+use Rattle.std.proofs.lemmas.Bool.{leb-true}
+use Rattle.fault.proofs.Outcomes.{demand_met}
 use Rattle.byte_lists.specs.Runs.{put, grow, zeros}
 use Rattle.byte_lists.proofs.Runs.{take-length, take-put-zeros, length-put, length-zeros}
 use Rattle.byte_lists.proofs.Octets.{octets_after, octets_zeros}
@@ -11,8 +13,9 @@ pub clear_run-requires-2 : goal.clear_run-requires-2
 clear_run-requires-2 c =
     let s = c.args.self.now in
     let lies = c.across-before.ensures.lies in
-    let high : c.args.length ≤ length (joined s) = omega (arith, c.most.ensures.value) in
-    omega (arith, lies.back, lies.few, length-append s.front.now s.back.now)
+    let least = leb-true _ _ (demand_met _ _ _ c.in_ok-demand.ensures.value) in
+    let most = leb-true _ _ (demand_met _ _ _ c.in_ok-demand-2.ensures.value) in
+    omega (arith, least, most, c.limit.ensures.value, lies.back, lies.few, length-append s.front.now s.back.now)
 
 pub returns : goal.returns
 returns c =
@@ -27,8 +30,8 @@ returns c =
     let high = c.across-before.result.high in
     let lies = c.across-before.ensures.lies in
     let is : used ≡ length (split_bytes s) = c.in_use-used.ensures.value in
-    let least : used ≤ to = c.if-length-used.false in
-    let most : to ≤ length (joined s) = omega (arith, c.most.ensures.value) in
+    let least : used ≤ to = leb-true _ _ (demand_met _ _ _ c.in_ok-demand.ensures.value) in
+    let most : to ≤ length (joined s) = omega (arith, c.limit.ensures.value, leb-true _ _ (demand_met _ _ _ c.in_ok-demand-2.ensures.value)) in
     let front = ap (λ m. take m (joined s)) is ∙ take-length (joined s) s.used in
     let both : c.clear_run.new.list ++ c.clear_run-2.new.list ≡ put (joined s) used (zeros n) =
     ap (λ l. l ++ c.clear_run-2.new.list) c.clear_run.ensures.after
