@@ -46,10 +46,7 @@ fn same_read<A: Store, B: Store>(
     if !same_verdict(x, y) {
         return false;
     }
-    match x {
-        Ok(()) => same_bytes(left, right),
-        Err(_) => true,
-    }
+    x.is_err() || same_bytes(left, right)
 }
 
 // One call to each store, and whether both answered alike.
@@ -98,9 +95,7 @@ pub fn agree<A: Store, B: Store>(
     let (left, right) = scratch.split_at_mut(half);
     let mut all = true;
     for call in calls {
-        if !same_answer(a, b, *call, left, &mut right[0..half]) {
-            all = false;
-        }
+        all &= same_answer(a, b, *call, left, &mut right[0..half]);
     }
     all
 }
