@@ -4,8 +4,8 @@ ghost use Rattle.fault.specs.Outcomes.{Gives};
 ghost use Rattle.format.specs.Header.{has_backing};
 ghost use Rattle.chain.specs.Chains.{chain_of};
 
-use disk::{Disk, ZerosDisk};
-use fault::{Fault, Layer as Where, Reason};
+use disk::{Disk, ZerosDisk, judge_within};
+use fault::Fault;
 use format::{Entry, Numbers};
 use guest::{entry_of, mount_sectors, read_entry};
 use store::Store;
@@ -45,8 +45,7 @@ pub(crate) fn read_layers<S: Store, B: Disk>(
     let [top, rest @ ..] = layers else {
         return base.read_sector(sector, out);
     };
-    let within = sector < mount_sectors(top.header);
-    Where::Disk.demand(within, Reason::PastDisk, sector)?;
+    judge_within(sector, mount_sectors(top.header))?;
     let n = top.header?;
     let e = entry_of(&top.store, n, n.l1, sector / n.cluster_sectors())?;
     if !goes_under(n, e, sector, sectors_in(rest, base)) {

@@ -3,8 +3,8 @@ ghost use Rattle.std.specs.Prelude.{◌≡◌, ◌*◌, ◌^◌, ◌≤◌, leng
 ghost use Rattle.byte_lists.specs.Runs.{EachOctet};
 ghost use Rattle.disk.specs.Disks.{raw_reading, sectors_of, sector as sector_of};
 
-use crate::Disk;
-use fault::{Fault, Layer, Reason};
+use crate::{Disk, judge_within};
+use fault::Fault;
 
 #[derive(Clone, Copy)]
 pub struct RawDisk<'a> {
@@ -44,8 +44,7 @@ impl Disk for RawDisk<'_> {
     }
 
     fn read_sector(&self, sector: u64, out: &mut [u8; 512]) -> Result<(), Fault> {
-        let within = sector < self.sectors();
-        Layer::Disk.demand(within, Reason::PastDisk, sector)?;
+        judge_within(sector, self.sectors())?;
         copy_sector(self.list, sector, out);
         Ok(())
     }

@@ -2,7 +2,7 @@
 ghost use Rattle.std.specs.Prelude.{◌≡◌};
 ghost use Rattle.disk.specs.Disks.{rescued_reading, spoilt};
 
-use crate::{Disk, RawDisk};
+use crate::{Disk, RawDisk, judge_within};
 use fault::{Fault, Layer, Reason};
 
 #[derive(Clone, Copy)]
@@ -41,8 +41,7 @@ impl Disk for RescuedDisk<'_> {
     }
 
     fn read_sector(&self, sector: u64, out: &mut [u8; 512]) -> Result<(), Fault> {
-        let within = sector < self.sectors();
-        Layer::Disk.demand(within, Reason::PastDisk, sector)?;
+        judge_within(sector, self.sectors())?;
         Layer::Disk.demand(!is_spoilt(self.spoiled, sector), Reason::Spoiled, sector)?;
         self.raw.read_sector(sector, out)
     }

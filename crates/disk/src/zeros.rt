@@ -2,8 +2,8 @@
 ghost use Rattle.std.specs.Prelude.{◌≡◌};
 ghost use Rattle.disk.specs.Disks.{zeros_reading};
 
-use crate::Disk;
-use fault::{Fault, Layer, Reason};
+use crate::{Disk, judge_within};
+use fault::Fault;
 
 #[derive(Clone, Copy)]
 pub struct ZerosDisk {
@@ -31,8 +31,7 @@ impl Disk for ZerosDisk {
     }
 
     fn read_sector(&self, sector: u64, out: &mut [u8; 512]) -> Result<(), Fault> {
-        let within = sector < self.sectors();
-        Layer::Disk.demand(within, Reason::PastDisk, sector)?;
+        judge_within(sector, self.sectors())?;
         out.fill(0);
         Ok(())
     }

@@ -4,8 +4,8 @@ ghost use Rattle.guest.specs.Shown.{mount_reading};
 ghost use Rattle.guest.proofs.Sounding.{sound_mount};
 
 use crate::mount::Mount;
-use disk::Disk;
-use fault::{Fault, Layer, Reason};
+use disk::{Disk, judge_within};
+use fault::Fault;
 use guest::{mount_sectors, read_guest};
 use store::Store;
 
@@ -20,8 +20,7 @@ impl<S: Store, B: Disk> Disk for Mount<S, B> {
     }
 
     fn read_sector(&self, sector: u64, out: &mut [u8; 512]) -> Result<(), Fault> {
-        let within = sector < self.sectors();
-        Layer::Disk.demand(within, Reason::PastDisk, sector)?;
+        judge_within(sector, self.sectors())?;
         let n = self.header?;
         read_guest(&self.store, &self.backing, n, n.l1, sector, out)
     }
