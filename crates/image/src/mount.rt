@@ -80,9 +80,7 @@ impl<S: Store, B: Disk> Mount<S, B> {
         requires { length buffer.old ≡ 512 }
         ensures outcome { Gives result (shows n (S.Store.bytes self.now.store) (B.Disk.reading self.now.backing) table sector) buffer.old buffer.new }
     {
-        let mut out = [0u8; 512];
-        read_guest(&self.store, &self.backing, n, table, sector, &mut out)?;
-        buffer.copy_from_slice(&out);
-        Ok(())
+        let out = buffer.as_mut_array().unwrap();
+        read_guest(&self.store, &self.backing, n, table, sector, out)
     }
 }
