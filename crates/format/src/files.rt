@@ -11,7 +11,7 @@ pub fn filled_length(first: &[u8], length: u64) -> u64
     ensures value { result ≡ filled_length first.now length }
 {
     match number_at::<u32>(first, 20) {
-        Some(bits) if 9 <= bits && bits <= 21 => length
+        Some(bits @ 9..=21) => length
             .checked_next_multiple_of(cluster_of(bits))
             .unwrap_or(u64::MAX),
         _ => length,

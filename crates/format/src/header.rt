@@ -11,13 +11,13 @@ impl Numbers {
     pub fn version_good(self) -> bool
         ensures value { result ≡ version_good self }
     {
-        self.version == 2 || self.version == 3
+        matches!(self.version, 2 | 3)
     }
 
     pub fn bits_good(self) -> bool
         ensures value { result ≡ bits_good self }
     {
-        9 <= self.bits && self.bits <= 21
+        matches!(self.bits, 9..=21)
     }
 
     fn length_good(self, length: u64) -> bool
@@ -53,7 +53,7 @@ impl Numbers {
     fn extent_good(self) -> bool
         ensures value { result ≡ extent_good self }
     {
-        1 <= self.extent && self.extent <= 64
+        matches!(self.extent, 1..=64)
     }
 
     fn records_good(self, length: u64) -> bool
@@ -65,7 +65,7 @@ impl Numbers {
     fn letters_good(self) -> bool
         ensures value { result ≡ letters_good self }
     {
-        !self.has_backing() || (1 <= self.letters && self.letters <= 1023)
+        !self.has_backing() || matches!(self.letters, 1..=1023)
     }
 
     fn name_good(self) -> bool
@@ -192,8 +192,8 @@ pub fn judge_store<S: Store>(s: &S) -> Result<Numbers, Fault>
 {
     let mut first = [0u8; 512];
     let length = s.length();
-    match s.read(0, &mut first) {
-        Ok(()) => judge(&first, length),
-        Err(_) => Err(Fault::new(Reason::NotQcow2, Layer::Header, 0)),
-    }
+    let Ok(()) = s.read(0, &mut first) else {
+        return Err(Fault::new(Reason::NotQcow2, Layer::Header, 0));
+    };
+    judge(&first, length)
 }

@@ -39,7 +39,7 @@ pub(crate) fn cluster_of(bits: u32) -> u64
     ensures least { 512 ≤ result }
     ensures most { result ≤ 2 ^ 21 }
 {
-    1u64 << bits.min(21).max(9)
+    1u64 << bits.clamp(9, 21)
 }
 
 impl Numbers {

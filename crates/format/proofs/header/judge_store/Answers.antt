@@ -5,8 +5,8 @@ use Rattle.format.proofs.Headers.{header-first}
 use Rattle.store.proofs.Outcomes.{loaded}
 use Rattle.format.proofs.header.judge_store.Goals as goal
 
-pub returns-in-Ok : goal.returns-in-Ok
-returns-in-Ok g c =
+pub returns : goal.returns
+returns g c =
     let bs = g.S.Store.bytes c.args.s.now in
     let h = loaded bs 0 512 c.read.new.out c.in-Ok.ensures.outcome in
     record {
