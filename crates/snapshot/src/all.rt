@@ -65,7 +65,7 @@ pub fn judge_records<S: Store>(s: &S, n: Numbers) -> Result<Records, Fault>
         list: ArrayVec::new(),
     };
     let mut at = 0;
-    for i in 0..n.snapshots.min(64) {
+    for i in 0..n.records_kept() {
         let r = judge_record(s, n, at)?;
         all.judge_id(&r)?;
         at += r.head.size();
@@ -78,7 +78,7 @@ pub fn judge_records<S: Store>(s: &S, n: Numbers) -> Result<Records, Fault>
 pub fn judge_id(id: &[u8]) -> Result<(), Fault>
     ensures value { result ≡ id_judged id.now }
 {
-    let fits = 1 <= id.len() && id.len() <= 16;
+    let fits = (1..=16).contains(&id.len());
     Layer::Call.demand(fits, Reason::BadId, 0)
 }
 
