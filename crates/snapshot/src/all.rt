@@ -42,10 +42,10 @@ impl Records {
     pub fn named(&self, id: &[u8]) -> Result<&Snapshot, Fault>
         ensures value { MatchResult result (λ r. named_by id.now (kept_of self.now) ≡ Ok r.now) (λ e. named_by id.now (kept_of self.now) ≡ Err e) }
     {
-        match self.find(id) {
-            Some(i) => Ok(&self.kept()[i]),
-            None => Err(Fault::new(Reason::NoSuchId, Layer::Call, 0)),
-        }
+        self.kept()
+            .iter()
+            .find(|r| same_id(id, r))
+            .ok_or(Fault::new(Reason::NoSuchId, Layer::Call, 0))
     }
 
     // A record is bad if an earlier one has its id.
