@@ -1,5 +1,5 @@
 // The numbers of a header, and what follows from them.
-ghost use Rattle.std.specs.Prelude.{◌≡◌, ◌+◌, ◌*◌, ◌/◌, ◌^◌, ◌≤◌};
+ghost use Rattle.std.specs.Prelude.{◌≡◌, ◌+◌, ◌*◌, ◌/◌, ◌^◌, ◌≤◌, min};
 ghost use Rattle.format.specs.Clusters.{cluster, cluster_of, per_table, per_cluster, sectors as sectors_of};
 ghost use Rattle.format.specs.Header.{needed, has_backing};
 
@@ -82,6 +82,22 @@ impl Numbers {
     {
         let span = self.cluster_size() * self.table_entries();
         self.size.div_ceil(span)
+    }
+
+    // The clusters of the refcount table; a good header has at most 64.
+    pub fn table_clusters(self) -> u32
+        ensures value { result ≡ min self.extent 64 }
+        ensures most { result ≤ 64 }
+    {
+        self.extent.min(64)
+    }
+
+    // The snapshot records; a good header has at most 64.
+    pub fn records_kept(self) -> u32
+        ensures value { result ≡ min self.snapshots 64 }
+        ensures most { result ≤ 64 }
+    {
+        self.snapshots.min(64)
     }
 
     // Whether the header has a backing name.

@@ -1,8 +1,8 @@
 -- All five totals are zero exactly where the image is lawful. Assumes nothing.
-use Rattle.std.proofs.Common.{◌≡◌, ℕ, Option, None, Some, IfSome, ◌+◌, ◌*◌, ◌/◌, ◌<◌, ◌≤◌, Bool, true, false, cond, not, ◌&&◌, eqb, leb, List, length, IfOk, Ok, Err, Result, sym, refl, ap, ◌∙◌, inl, inr, arith, MatchResult}
+use Rattle.std.proofs.Common.{◌≡◌, ℕ, Option, None, Some, IfSome, ◌+◌, ◌*◌, ◌/◌, ◌<◌, ◌≤◌, Bool, true, false, cond, not, ◌&&◌, eqb, leb, List, Ok, Err, Result, sym, refl, ap, ◌∙◌, inl, inr, arith}
 use Rattle.std.proofs.lemmas.Bool.{and_parts, and_from, and_left, and_right, and_cases, or_parts, or_from, cases_Bool, eqb-true, eq-eqb, ne_eqb, eqb-false, ltb-false, le-ltb, le-leb, lt-leb, leb-false, leb-true, both_ways}
 use Rattle.fault.specs.declared.Fault.{Fault}
-use Rattle.fault.proofs.Outcomes.{then_ok, then_is, ok_same}
+use Rattle.fault.proofs.Outcomes.{then_ok, ok_same}
 use Rattle.byte_lists.specs.Runs.{Octets}
 use Rattle.format.specs.declared.numbers.Numbers.{Numbers}
 use Rattle.format.specs.Clusters.{cluster, per_table}
@@ -14,8 +14,7 @@ use Rattle.walk.specs.References.{l2_at, entries_of, references}
 use Rattle.walk.specs.Walk.{blocks_judged, walk}
 use Rattle.tally.specs.Tally.{times, kind_from, twice}
 use Rattle.image_check.specs.Totals.{sum, one, clusters_of, held_times, leaks, lacks, repeats, leaked, short, mixed, repeated, wrong_at, wrong, wrong_in, l2_wrong, under_wrong, branch_wrong, flags}
-use Rattle.image.specs.Calls.{room_judged}
-use Rattle.image_check.specs.Outcome.{totals_of, check_outcome, found_clean}
+use Rattle.image_check.specs.Outcome.{totals_of, found_clean}
 use Rattle.image_check.specs.Lawful.{Flag, Lawful}
 use Rattle.image_check.proofs.Sums.{sum_zero, zero_sum, one_zero, zero_one}
 use Rattle.image_check.proofs.Counted.{count_below, none_beyond, beyond_none}
@@ -156,17 +155,11 @@ module _ (n : Numbers) (bs : List ℕ) (rs : List Snapshot) (o : Octets bs) (goo
       (and_from (eqb (mixed n bs refs) 0) _ (eq-eqb (mixed n bs refs) 0 m)
       (and_from (eqb (repeated n bs rs refs) 0) _ (eq-eqb (repeated n bs rs refs) 0 r) (eq-eqb (flags n bs) 0 f))))
 
--- the same of what check answered
-law_of : (header : Result Numbers Fault) (bs words after : List ℕ) (t : ℕ × ℕ × ℕ × ℕ × ℕ) → Octets bs → check_outcome header bs words ≡ Ok (record { totals = t; words = after }) →
-    (n : Numbers) (rs : List Snapshot) → header ≡ Ok n → walk n bs ≡ Ok rs → (found_clean t ≡ true → Lawful n bs rs) × (Lawful n bs rs → found_clean t ≡ true)
-law_of header bs words after t o e n rs is good =
-    let a = then_ok (room_judged (length words) (clusters_of n bs)) _ (record { totals = t; words = after }) (sym (then_is header _ n is) ∙ e) in
-    let b = sym (then_is (walk n bs) _ rs good) ∙ a.1.1 in
-    let same : totals_of n bs rs ≡ t = ap (λ x. x.totals) (ok_same _ _ b) in
-    (λ c. clean_lawful n bs rs o good (ap found_clean same ∙ c), λ l. ap found_clean (sym same) ∙ lawful_clean n bs rs o good l)
-
-pub lawful_case : (header : Result Numbers Fault) (bs words after : List ℕ) (r : Result (ℕ × ℕ × ℕ × ℕ × ℕ) Fault) →
-    MatchResult r (λ t. check_outcome header bs words ≡ Ok (record { totals = t; words = after })) (λ e. (check_outcome header bs words ≡ Err e) × (after ≡ words)) → Octets bs →
-    IfOk r (λ t. (n : Numbers) (rs : List Snapshot) → header ≡ Ok n → walk n bs ≡ Ok rs → (found_clean t ≡ true → Lawful n bs rs) × (Lawful n bs rs → found_clean t ≡ true))
-lawful_case header bs words after (Ok t) e o = law_of header bs words after t o e
-lawful_case header bs words after (Err f) e o = tt
+-- the same of what is counted under a header
+module _ (header : Result Numbers Fault) (bs : List ℕ) (o : Octets bs) (m : Numbers) (kept : List Snapshot) (t : ℕ × ℕ × ℕ × ℕ × ℕ) (from : header ≡ Ok m) (walked : walk m bs ≡ Ok kept) (counted : t ≡ totals_of m bs kept) where
+  pub law_of : (n : Numbers) (rs : List Snapshot) → header ≡ Ok n → walk n bs ≡ Ok rs → (found_clean t ≡ true → Lawful n bs rs) × (Lawful n bs rs → found_clean t ≡ true)
+  law_of n rs is good =
+      let numbers : n ≡ m = ok_same n m (sym is ∙ from) in
+      let list : rs ≡ kept = ok_same rs kept (sym good ∙ ap (λ x. walk x bs) numbers ∙ walked) in
+      let same : totals_of n bs rs ≡ t = ap (λ x. totals_of x bs rs) numbers ∙ ap (totals_of m bs) list ∙ sym counted in
+      (λ c. clean_lawful n bs rs o good (ap found_clean same ∙ c), λ l. ap found_clean (sym same) ∙ lawful_clean n bs rs o good l)

@@ -63,25 +63,6 @@ fn all_zero(t: (u64, u64, u64, u64, u64)) -> bool
     t == (0, 0, 0, 0, 0)
 }
 
-fn check_and_mark<S: Store, B: Disk>(
-    m: &mut Mount<S, B>,
-    words: &mut [u32],
-) -> Result<(u64, u64, u64, u64, u64), Fault>
-    ensures answer { MatchResult result (λ t. check_outcome m.old.header (S.Store.bytes m.old.store) words.old ≡ Ok (record { totals = t; words = words.new })) (λ e. (check_outcome m.old.header (S.Store.bytes m.old.store) words.old ≡ Err e) × (words.new ≡ words.old)) }
-    ensures clean { MatchResult result (λ t. m.new.clean ≡ found_clean t) (λ _. m.new.clean ≡ m.old.clean) }
-    ensures store { m.new.store ≡ m.old.store }
-    ensures backing { m.new.backing ≡ m.old.backing }
-    ensures numbers { m.new.header ≡ m.old.header }
-{
-    let n = m.header?;
-    let k = clusters(&m.store, n);
-    judge_room(words.len(), k)?;
-    let all = walk(&m.store, n)?;
-    let totals = count_up(&m.store, n, all.kept(), &mut words[0..k as usize]);
-    m.clean = all_zero(totals);
-    Ok(totals)
-}
-
 // Fills the list with the tally and gives leaked, short, mixed, repeated and flags together. The mount is then clean
 // exactly if all five are zero, and they are exactly if the image is lawful; a refusal leaves list and mount as they were.
 pub fn check<S: Store, B: Disk>(
@@ -95,5 +76,11 @@ pub fn check<S: Store, B: Disk>(
     ensures numbers { m.new.header ≡ m.old.header }
     ensures lawful { IfOk result (λ t. (n : Numbers) (rs : List Snapshot) → m.old.header ≡ Ok n → walk_of n (S.Store.bytes m.old.store) ≡ Ok rs → (found_clean t ≡ true → Lawful n (S.Store.bytes m.old.store) rs) × (Lawful n (S.Store.bytes m.old.store) rs → found_clean t ≡ true)) }
 {
-    check_and_mark(m, words)
+    let n = m.header?;
+    let k = clusters(&m.store, n);
+    judge_room(words.len(), k)?;
+    let all = walk(&m.store, n)?;
+    let totals = count_up(&m.store, n, all.kept(), &mut words[0..k as usize]);
+    m.clean = all_zero(totals);
+    Ok(totals)
 }

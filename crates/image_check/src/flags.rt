@@ -40,13 +40,11 @@ fn under_wrong<S: Store>(s: &S, n: Numbers, l2: Option<u64>, i: u32) -> u64
 fn branch_wrong<S: Store>(s: &S, n: Numbers, i: u32) -> u64
     ensures value { result ≡ branch_wrong n (S.Store.bytes s.now) i (l1_at n (S.Store.bytes s.now) n.l1 i) }
 {
-    match l1_at(s, n, n.l1, i as u64) {
-        Ok(e) => {
-            let own = u64::from(wrong(s, n, e));
-            own + under_wrong(s, n, e.offset, i)
-        }
-        Err(_) => 0,
-    }
+    let Ok(e) = l1_at(s, n, n.l1, i as u64) else {
+        return 0;
+    };
+    let own = u64::from(wrong(s, n, e));
+    own + under_wrong(s, n, e.offset, i)
 }
 
 // By path: a table that two live entries name has its entries judged twice.

@@ -21,10 +21,7 @@ pub(crate) struct Found {
 fn repeats_by(w: u32) -> bool
     ensures value { result ≡ repeats (kind_in (w / 2 ^ 28)) (w % 2 ^ 28) (mark_in (w / 2 ^ 28) == 2) }
 {
-    let table = match kind_of(w) {
-        Used::As(kind) => !kind.in_tree(),
-        Used::Free | Used::Several => false,
-    };
+    let table = matches!(kind_of(w), Used::As(kind) if !kind.in_tree());
     repeated(w) || (table && 2 <= references_of(w))
 }
 

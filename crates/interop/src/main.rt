@@ -11,7 +11,7 @@ fn list(rt: &HostRuntime, n: Numbers, image: &mut [u8]) -> anyhow::Result<()> {
     let used = image.len();
     let s = FlatStore::new(image, used);
     let mut at: u64 = 0;
-    for _ in 0..n.snapshots.min(64) {
+    for _ in 0..n.records_kept() {
         match judge_record(&s, n, at) {
             Ok(record) => {
                 let text = String::from_utf8_lossy(rt.alloc(), record.id())?;

@@ -36,34 +36,9 @@ fn read_by_word<S: Store, B: Disk>(
     }
 }
 
-// The sector that a guest cluster's word leads to.
-fn copy_by_word<S: Store, B: Disk>(
-    m: &Mount<S, B>,
-    words: &[u32],
-    sector: u64,
-    buffer: &mut [u8],
-) -> Result<(), Fault>
-    ensures outcome { Gives result (copy_outcome m.now.header (S.Store.bytes m.now.store) (B.Disk.reading m.now.backing) words.now sector (length buffer.old)) buffer.old buffer.new }
-{
-    let n = m.header?;
-    judge_sector(n, sector, buffer.len())?;
-    judge_room(words.len(), guest_clusters(n))?;
-    let cluster = sector / n.cluster_sectors();
-    let mut out = [0u8; 512];
-    read_by_word(
-        &m.store,
-        &m.backing,
-        n,
-        words[cluster as usize],
-        sector,
-        &mut out,
-    )?;
-    buffer.copy_from_slice(&out);
-    Ok(())
-}
-
 // The sector by its guest cluster's word. With the words that a map of the same bytes gave, this is what read
 // answers, or peek if it was a snapshot's map.
+#[tactic(auto, using(crate::proofs::Readers::reader))]
 pub fn copy_out<S: Store, B: Disk>(
     m: &Mount<S, B>,
     words: &[u32],
@@ -73,5 +48,17 @@ pub fn copy_out<S: Store, B: Disk>(
     ensures outcome { Gives result (copy_outcome m.now.header (S.Store.bytes m.now.store) (B.Disk.reading m.now.backing) words.now sector (length buffer.old)) buffer.old buffer.new }
     ensures reader { (id before : List ℕ) → Honest (S.Store.bytes m.now.store) m.now.header → map_outcome m.now.header (S.Store.bytes m.now.store) id before ≡ Ok words.now → copy_outcome m.now.header (S.Store.bytes m.now.store) (B.Disk.reading m.now.backing) words.now sector (length buffer.old) ≡ shown_outcome m.now.header (S.Store.bytes m.now.store) (B.Disk.reading m.now.backing) id sector (length buffer.old) }
 {
-    copy_by_word(m, words, sector, buffer)
+    let n = m.header?;
+    judge_sector(n, sector, buffer.len())?;
+    judge_room(words.len(), guest_clusters(n))?;
+    let cluster = sector / n.cluster_sectors();
+    let out = buffer.as_mut_array().unwrap();
+    read_by_word(
+        &m.store,
+        &m.backing,
+        n,
+        words[cluster as usize],
+        sector,
+        out,
+    )
 }

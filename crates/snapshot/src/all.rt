@@ -42,10 +42,10 @@ impl Records {
     pub fn named(&self, id: &[u8]) -> Result<&Snapshot, Fault>
         ensures value { MatchResult result (λ r. named_by id.now (kept_of self.now) ≡ Ok r.now) (λ e. named_by id.now (kept_of self.now) ≡ Err e) }
     {
-        match self.find(id) {
-            Some(i) => Ok(&self.kept()[i]),
-            None => Err(Fault::new(Reason::NoSuchId, Layer::Call, 0)),
-        }
+        self.kept()
+            .iter()
+            .find(|r| same_id(id, r))
+            .ok_or(Fault::new(Reason::NoSuchId, Layer::Call, 0))
     }
 
     // A record is bad if an earlier one has its id.
@@ -65,7 +65,7 @@ pub fn judge_records<S: Store>(s: &S, n: Numbers) -> Result<Records, Fault>
         list: ArrayVec::new(),
     };
     let mut at = 0;
-    for i in 0..n.snapshots.min(64) {
+    for i in 0..n.records_kept() {
         let r = judge_record(s, n, at)?;
         all.judge_id(&r)?;
         at += r.head.size();
@@ -78,7 +78,7 @@ pub fn judge_records<S: Store>(s: &S, n: Numbers) -> Result<Records, Fault>
 pub fn judge_id(id: &[u8]) -> Result<(), Fault>
     ensures value { result ≡ id_judged id.now }
 {
-    let fits = 1 <= id.len() && id.len() <= 16;
+    let fits = (1..=16).contains(&id.len());
     Layer::Call.demand(fits, Reason::BadId, 0)
 }
 

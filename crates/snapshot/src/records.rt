@@ -67,13 +67,13 @@ impl Head {
     fn extra_good(self, n: Numbers) -> bool
         ensures value { result ≡ extra_good n self }
     {
-        (16 <= self.extra && self.extra <= 1024) || (n.version == 2 && self.extra == 0)
+        matches!(self.extra, 16..=1024) || (n.version == 2 && self.extra == 0)
     }
 
     fn sizes_good(self, n: Numbers) -> bool
         ensures value { result ≡ sizes_good n self }
     {
-        1 <= self.id && self.id <= 16 && self.name <= 64 && self.extra_good(n)
+        matches!(self.id, 1..=16) && self.name <= 64 && self.extra_good(n)
     }
 
     fn head_good(self, n: Numbers, length: u64) -> bool

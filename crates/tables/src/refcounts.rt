@@ -20,7 +20,7 @@ pub fn blocks(n: Numbers) -> u32
     ensures value { result ≡ blocks_of n }
     ensures most { result ≤ 2 ^ 24 }
 {
-    n.extent.min(64) * n.table_entries() as u32
+    n.table_clusters() * n.table_entries() as u32
 }
 
 // Judges an entry of the refcount table that stands at `place` of a store of this length, and says where it leads.

@@ -155,7 +155,7 @@ fn touch_table(n: Numbers, words: &mut [u32])
 {
     touch_row(
         n.refcounts / n.cluster_size(),
-        n.extent.min(64) as u64,
+        n.table_clusters() as u64,
         words,
     );
 }
