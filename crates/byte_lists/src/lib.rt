@@ -3,6 +3,7 @@
 
 ghost use Rattle.std.specs.Prelude.{◌≡◌, ◌+◌, length, nat_le};
 ghost use Rattle.byte_lists.specs.Runs.{Octets};
+ghost use Rattle.byte_lists.specs.Fields.{field};
 
 mod big_endian;
 
@@ -14,6 +15,14 @@ pub struct Field {
     pub at: u64,
     pub wide: u8,
     pub value: u64,
+}
+
+impl Field {
+    pub fn new(at: u64, wide: u8, value: u64) -> Field
+        ensures value { result ≡ field at wide value }
+    {
+        Field { at, wide, value }
+    }
 }
 
 // Whether n bytes from `first` on lie within `length`, as a true sum that never wraps.

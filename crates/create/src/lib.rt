@@ -36,71 +36,19 @@ fn shared_list(n: Numbers) -> [Field; 13]
     ensures value { result ≡ shared_fields n }
 {
     [
-        Field {
-            at: 0,
-            wide: 4,
-            value: 0x5146_49fb,
-        },
-        Field {
-            at: 4,
-            wide: 4,
-            value: n.version as u64,
-        },
-        Field {
-            at: 8,
-            wide: 8,
-            value: n.name,
-        },
-        Field {
-            at: 16,
-            wide: 4,
-            value: n.letters as u64,
-        },
-        Field {
-            at: 20,
-            wide: 4,
-            value: n.bits as u64,
-        },
-        Field {
-            at: 24,
-            wide: 8,
-            value: n.size,
-        },
-        Field {
-            at: 32,
-            wide: 4,
-            value: n.crypt as u64,
-        },
-        Field {
-            at: 36,
-            wide: 4,
-            value: n.entries as u64,
-        },
-        Field {
-            at: 40,
-            wide: 8,
-            value: n.l1,
-        },
-        Field {
-            at: 48,
-            wide: 8,
-            value: n.refcounts,
-        },
-        Field {
-            at: 56,
-            wide: 4,
-            value: n.extent as u64,
-        },
-        Field {
-            at: 60,
-            wide: 4,
-            value: n.snapshots as u64,
-        },
-        Field {
-            at: 64,
-            wide: 8,
-            value: n.records,
-        },
+        Field::new(0, 4, 0x5146_49fb),
+        Field::new(4, 4, n.version as u64),
+        Field::new(8, 8, n.name),
+        Field::new(16, 4, n.letters as u64),
+        Field::new(20, 4, n.bits as u64),
+        Field::new(24, 8, n.size),
+        Field::new(32, 4, n.crypt as u64),
+        Field::new(36, 4, n.entries as u64),
+        Field::new(40, 8, n.l1),
+        Field::new(48, 8, n.refcounts),
+        Field::new(56, 4, n.extent as u64),
+        Field::new(60, 4, n.snapshots as u64),
+        Field::new(64, 8, n.records),
     ]
 }
 
@@ -108,26 +56,10 @@ fn late_list(n: Numbers) -> [Field; 4]
     ensures value { result ≡ late_fields n }
 {
     [
-        Field {
-            at: 72,
-            wide: 8,
-            value: n.incompatible,
-        },
-        Field {
-            at: 88,
-            wide: 8,
-            value: n.autoclear,
-        },
-        Field {
-            at: 96,
-            wide: 4,
-            value: n.order as u64,
-        },
-        Field {
-            at: 100,
-            wide: 4,
-            value: n.header as u64,
-        },
+        Field::new(72, 8, n.incompatible),
+        Field::new(88, 8, n.autoclear),
+        Field::new(96, 4, n.order as u64),
+        Field::new(100, 4, n.header as u64),
     ]
 }
 
@@ -137,31 +69,11 @@ fn table_list(c: u64) -> [Field; 5]
     ensures value { result ≡ table_fields c }
 {
     [
-        Field {
-            at: c,
-            wide: 8,
-            value: 2 * c,
-        },
-        Field {
-            at: 2 * c,
-            wide: 2,
-            value: 1,
-        },
-        Field {
-            at: 2 * c + 2,
-            wide: 2,
-            value: 1,
-        },
-        Field {
-            at: 2 * c + 4,
-            wide: 2,
-            value: 1,
-        },
-        Field {
-            at: 2 * c + 6,
-            wide: 2,
-            value: 1,
-        },
+        Field::new(c, 8, 2 * c),
+        Field::new(2 * c, 2, 1),
+        Field::new(2 * c + 2, 2, 1),
+        Field::new(2 * c + 4, 2, 1),
+        Field::new(2 * c + 6, 2, 1),
     ]
 }
 

@@ -14,11 +14,11 @@ use Rattle.layers.specs.declared.stop.Stop.TheVariants.{Said, Memory, System, Ot
 
 abbrev pub said : Result (String Global) AllocError → Stop
 said (Ok text) = Said text
-said (Err e) = Memory
+said (Err e) = Memory e
 
 abbrev pub Says : Stop → List ℕ → Type 0
 Says (Said text) told = string_bytes text ≡ told
-Says Memory told = Unit {0}
+Says (Memory e) told = Unit {0}
 Says (System e) told = ⊥
 Says (Other e) told = ⊥
 

@@ -93,7 +93,7 @@ fn load_spoiled(rt: &HostRuntime, path: &str) -> Result<Vec<u64>, Stop> {
     let heap = rt.alloc();
     let text = fs::read_to_string(rt, path).map_err(|e| failed(heap, path, e))?;
     spoiled_in(heap, text.as_str()).map_err(|e| match e {
-        BadList::OutOfMemory => Stop::Memory,
+        BadList::OutOfMemory => Stop::Memory(AllocError),
         BadList::Line(_) => Stop::said(format!(in heap; "{path}: {e}")),
     })
 }
@@ -138,7 +138,7 @@ pub fn open(rt: &HostRuntime, path: &str, how: How) -> Result<Opened, Stop> {
     let links = links_of(rt, path, how.backing)?;
     let spoiled = spoiled_for(rt, links.as_slice(), how.spoiled)?;
     let [first, rest @ ..] = links.as_slice() else {
-        return Err(Stop::Memory);
+        return Err(Stop::Memory(AllocError));
     };
     let top = load_alone(rt, first.path.as_str())?;
     let under = load_under(rt, rest, spoiled)?;

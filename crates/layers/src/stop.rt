@@ -2,15 +2,20 @@
 ghost use Rattle.std.specs.Prelude.{◌≡◌};
 ghost use Rattle.layers.specs.Refusals.{said as said_of};
 
-use std::alloc::{AllocError, AllocFailed};
-use std::{fmt, io};
+use std::alloc::AllocError;
+use std::io;
+use thiserror::Error;
 
-#[derive(Drop)]
+#[derive(Debug, Drop, Error)]
 pub enum Stop {
+    #[error("{0}")]
     Said(String),
-    Memory,
-    System(io::Error),
-    Other(anyhow::Error),
+    #[error("out of memory")]
+    Memory(#[from(alloc)] AllocError),
+    #[error(transparent)]
+    System(#[from] io::Error),
+    #[error(transparent)]
+    Other(#[from] anyhow::Error),
 }
 
 impl Stop {
@@ -20,42 +25,7 @@ impl Stop {
     {
         match words {
             Ok(text) => Stop::Said(text),
-            Err(_) => Stop::Memory,
+            Err(e) => Stop::Memory(e),
         }
-    }
-}
-
-impl fmt::Display for Stop {
-    fn fmt<W: fmt::Write>(&self, f: &mut fmt::Formatter<W>) -> fmt::Result {
-        match self {
-            Stop::Said(text) => write!(f, "{text}"),
-            Stop::Memory => write!(f, "out of memory"),
-            Stop::System(e) => write!(f, "{e}"),
-            Stop::Other(e) => write!(f, "{e}"),
-        }
-    }
-}
-
-impl From<AllocError> for Stop {
-    fn from(_e: AllocError) -> Stop {
-        Stop::Memory
-    }
-}
-
-impl<T: Drop> From<AllocFailed<T>> for Stop {
-    fn from(_e: AllocFailed<T>) -> Stop {
-        Stop::Memory
-    }
-}
-
-impl From<io::Error> for Stop {
-    fn from(e: io::Error) -> Stop {
-        Stop::System(e)
-    }
-}
-
-impl From<anyhow::Error> for Stop {
-    fn from(e: anyhow::Error) -> Stop {
-        Stop::Other(e)
     }
 }

@@ -8,7 +8,7 @@ use std::fmt::Write;
 fn is_plain(b: u8) -> bool
     ensures value { result ≡ plain b }
 {
-    b >= 0x20 && b < 0x7f
+    matches!(b, 0x20..=0x7e)
 }
 
 #[tactic(auto, using(std::proofs::lemmas::Fmt::hex_byte))]

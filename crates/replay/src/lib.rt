@@ -45,7 +45,7 @@ fn compare(rt: &HostRuntime, name: &str) -> anyhow::Result<Outcome> {
 // The lists that the file `names` names, a line for each.
 pub fn run(rt: &HostRuntime) -> anyhow::Result<()> {
     let names = fs::read_to_string(rt, "names")?;
-    let mut wrong: usize = 0;
+    let mut all_equal = true;
     for name in names.as_str().lines() {
         let Outcome {
             equal,
@@ -55,15 +55,16 @@ pub fn run(rt: &HostRuntime) -> anyhow::Result<()> {
         match first {
             None => println!(rt; "{name}: {equal} of {lines} lines equal")?,
             Some(n) => {
-                wrong = wrong.saturating_add(1);
+                all_equal = false;
                 println!(rt;
                     "{name}: {equal} of {lines} lines equal, the first that is not is {n}"
                 )?;
             }
         }
     }
-    if wrong > 0 {
-        return Err(anyhow!("a record differs"));
+    if all_equal {
+        Ok(())
+    } else {
+        Err(anyhow!("a record differs"))
     }
-    Ok(())
 }

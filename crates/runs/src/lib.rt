@@ -32,7 +32,7 @@ fn goes_on(before: u32, word: u32) -> bool
     if before < DATA {
         before == word
     } else {
-        before as u64 + 1 == word as u64
+        before.checked_add(1) == Some(word)
     }
 }
 
