@@ -101,22 +101,24 @@ fn report(rt: &HostRuntime, what: &str, r: Result<(), Fault>, length: u64) -> an
     Ok(())
 }
 
-fn run(rt: &HostRuntime) -> anyhow::Result<()> {
-    let headers = fs::read_to_string(rt, "headers")?;
-    for line in headers.as_str().lines() {
+// The cases of a file.
+fn run_cases<Case: Fn(&HostRuntime, &str, &str) -> anyhow::Result<()>>(
+    rt: &HostRuntime,
+    path: &str,
+    case: Case,
+) -> anyhow::Result<()>
+    requires { Case.IsAlwaysCallable case }
+{
+    let text = fs::read_to_string(rt, path)?;
+    for line in text.as_str().lines() {
         if let Some((what, numbers)) = line.split_once(';') {
-            header_case(rt, what, numbers)?;
-        }
-    }
-    let creates = fs::read_to_string(rt, "creates")?;
-    for line in creates.as_str().lines() {
-        if let Some((what, numbers)) = line.split_once(';') {
-            create_case(rt, what, numbers)?;
+            case(rt, what, numbers)?;
         }
     }
     Ok(())
 }
 
 fn main(rt: HostRuntime) -> anyhow::Result<()> {
-    run(&rt)
+    run_cases(&rt, "headers", header_case)?;
+    run_cases(&rt, "creates", create_case)
 }

@@ -90,6 +90,7 @@ impl Reason {
     }
 
     // A few plain words for people.
+    #[tactic(auto, using(crate::proofs::Words::words_same))]
     pub fn words(self) -> &'static str
         ensures value { result.now ≡ words_of self }
     {

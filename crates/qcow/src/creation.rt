@@ -12,7 +12,12 @@ pub(crate) const USAGE: &str =
 
 const VALUED: &[&str] = &["--compat", "--cluster-bits", "--backing"];
 
-const UNITS: [(char, u32); 4] = [('K', 10), ('M', 20), ('G', 30), ('T', 40)];
+const UNITS: [(char, u64); 4] = [
+    ('K', 1 << 10),
+    ('M', 1 << 20),
+    ('G', 1 << 30),
+    ('T', 1 << 40),
+];
 
 // What is asked for, as the words have it.
 #[derive(Clone, Copy)]
@@ -40,12 +45,10 @@ fn bits_of(heap: Global, bits: Option<&str>) -> Result<u32, Stop> {
 
 // The factor of a size's last letter, and what stands before it.
 fn unit(text: &str) -> (&str, u64) {
-    for (letter, shift) in UNITS {
-        if let Some(front) = text.strip_suffix(letter) {
-            return (front, 1 << shift);
-        }
-    }
-    (text, 1)
+    UNITS
+        .into_iter()
+        .find_map(|(letter, factor)| Some((text.strip_suffix(letter)?, factor)))
+        .unwrap_or((text, 1))
 }
 
 // Bytes, or with K, M, G or T.

@@ -14,7 +14,7 @@ impl Progress {
     pub(crate) fn new(rt: &HostRuntime, whole: u64) -> Progress {
         Progress {
             seen: rt.stderr().is_terminal(),
-            part: (whole / 100).max(1),
+            part: whole / 100,
             last: 0,
         }
     }

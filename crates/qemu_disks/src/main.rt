@@ -126,11 +126,10 @@ fn id_of(id: &str) -> &[u8] {
 }
 
 // The line of a disk all of whose sectors are equal.
-fn say(rt: &HostRuntime, live: bool, id: &str, sectors: u64) -> Result<(), Stop> {
-    if live {
-        println!(rt; "  live: {sectors} sectors equal")?;
-    } else {
-        println!(rt; "  snapshot {id}: {sectors} sectors equal")?;
+fn say(rt: &HostRuntime, id: &str, sectors: u64) -> Result<(), Stop> {
+    match id {
+        "-" => println!(rt; "  live: {sectors} sectors equal")?,
+        _ => println!(rt; "  snapshot {id}: {sectors} sectors equal")?,
     }
     Ok(())
 }
@@ -159,7 +158,7 @@ fn hold(rt: &HostRuntime, name: &str, id: &str, raw: &str) -> Result<(), Stop> {
     if equal != sectors_of(n) || expected.len() as u64 != n.size {
         return Err(differs(heap, raw, equal, sectors_of(n)));
     }
-    say(rt, id == "-", id, equal)
+    say(rt, id, equal)
 }
 
 fn run(rt: &HostRuntime) -> Result<(), Stop> {
