@@ -10,6 +10,15 @@ use format::{Numbers, judge};
 use std::fs;
 use store::{FlatStore, Store};
 
+// Writes a byte where it fits, and says whether it did.
+fn put_byte(image: &mut [u8], at: usize, value: u8) -> bool {
+    let Some(byte) = image.get_mut(at) else {
+        return false;
+    };
+    *byte = value;
+    true
+}
+
 // An edit is AT/WIDTH=VALUE: a number written in 1, 4 or 8 bytes.
 fn patch(image: &mut [u8], edit: &str) -> anyhow::Result<()> {
     let Some((place, value)) = edit.split_once('=') else {
@@ -20,20 +29,16 @@ fn patch(image: &mut [u8], edit: &str) -> anyhow::Result<()> {
     };
     let at = at.parse::<usize>()?;
     let value = value.parse::<u64>()?;
-    let done = match width {
+    let fits = match width {
         "8" => put_number(image, at, value),
         "4" => put_number(image, at, (value & 0xffff_ffff) as u32),
-        "1" if at < image.len() => {
-            image[at] = (value & 0xff) as u8;
-            true
-        }
-        _ => false,
+        "1" => put_byte(image, at, (value & 0xff) as u8),
+        _ => return Err(anyhow!("a width is 1, 4 or 8")),
     };
-    if done {
-        Ok(())
-    } else {
-        Err(anyhow!("a width is 1, 4 or 8"))
+    if !fits {
+        return Err(anyhow!("{at} is past the image's end"));
     }
+    Ok(())
 }
 
 // The edits of a case, behind its length.

@@ -42,10 +42,7 @@ impl From<AllocFailed<u64>> for BadList {
 fn said(line: &str) -> &str
     ensures value { result.now ≡ said line.now }
 {
-    match line.split_once('#') {
-        Some((front, _)) => front.trim(),
-        None => line.trim(),
-    }
+    line.split_once('#').map_or(line, |(front, _)| front).trim()
 }
 
 // The number on a line, if it has one.

@@ -23,9 +23,8 @@ fn kind_of(n: Numbers, e: Entry) -> Kind
     let Some(at) = e.offset else {
         return Kind::Empty;
     };
-    // a good image has fewer than 2^30 clusters
-    let host = (at / n.cluster_size()).min((1 << 30) - 1);
-    Kind::Data(host as u32)
+    // a word holds no host cluster of 2^30 or more, and a good image has none
+    Kind::Data(u32::try_from(at / n.cluster_size()).unwrap_or(u32::MAX))
 }
 
 // What the word of a guest cluster says, whose entry was judged good.

@@ -112,10 +112,7 @@ impl Line<'_> {
     fn number_or(&self, i: usize, otherwise: u64) -> Result<u64, Misread>
         ensures value { Tells result (λ n. n) (number_or self.now i otherwise) }
     {
-        match word(self.text, i) {
-            Some(w) => number(w),
-            None => Ok(otherwise),
-        }
+        word(self.text, i).map_or(Ok(otherwise), number)
     }
 
     fn bytes(&self, i: usize, form: Form) -> Result<Vec<u8>, Misread>
