@@ -1,5 +1,4 @@
 // A disk that holds no image: zeros, raw or rescued.
-ghost use Rattle.std.specs.Prelude.{◌≡◌};
 ghost use Rattle.lent.specs.Lent.{base_reading, base_sound};
 
 use disk::{Disk, RawDisk, RescuedDisk, ZerosDisk};

@@ -54,8 +54,8 @@ impl Session {
         }
     }
 
-    #[tactic(auto, unfolding(crate::specs::States::spoken))]
     // The record line of a call; none for a line without one. Without memory for it, nothing has happened.
+    #[tactic(auto, unfolding(crate::specs::States::spoken))]
     pub fn line(&mut self, text: &str) -> Result<Option<String>, AllocError>
         ensures spoken { Spoken (state self.old) text.now result (state self.new) }
         ensures skipped { IfOk result (λ o. IfNone o (self.new ≡ self.old)) }
