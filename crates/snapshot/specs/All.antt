@@ -5,8 +5,8 @@
 --   records    all records, or the first fault; a record is bad if an earlier one has its id
 --   id_judged  an id has 1 to 16 bytes
 --   table      the L1 table of the snapshot with an id: all records are judged, then it is looked for
---   kept       the records that were found, in their order
-use Rattle.std.specs.Prelude.{ℕ, zero, suc, ◌+◌, min, cond, not, ◌&&◌, List, [], ◌∷◌, ◌++◌, length, is_some, Some, None, Ok, Err, Option, Result, nat_le, slice_index_or}
+--   kept       the records that a list with room for 64 holds
+use Rattle.std.specs.Prelude.{ℕ, zero, suc, ◌+◌, min, cond, not, ◌&&◌, List, [], ◌∷◌, ◌++◌, length, take, is_some, Some, None, Ok, Err, Option, Result, nat_le, slice_index_or}
 use Rattle.std.specs.List.{position_from}
 use Rattle.std.specs.Str.{bytes_eq}
 use Rattle.fault.specs.declared.Fault.{Fault}
@@ -24,7 +24,7 @@ position id rs i = position_from (λ r. bytes_eq id (id_of r)) i rs
 
 -- what a list is said to hold past its end
 abbrev pub no_snapshot : Snapshot
-no_snapshot = record { place = 0; head = record { l1 = 0; entries = 0; id = 0; name = 0; state = 0; extra = 0 }; id = record { items = [] } }
+no_snapshot = record { place = 0; head = record { l1 = 0; entries = 0; id = 0; name = 0; state = 0; extra = 0 }; id = [] }
 
 abbrev pub chosen : List Snapshot → Option ℕ → Result Snapshot Fault
 chosen rs (Some i) = Ok (slice_index_or rs i no_snapshot)
@@ -48,7 +48,7 @@ abbrev pub records : Numbers → List ℕ → Result (List Snapshot) Fault
 records n bs = records_from n bs (many n) 0 []
 
 abbrev pub kept : Records → List Snapshot
-kept all = all.list.items
+kept all = take all.count all.list
 
 abbrev pub id_judged : List ℕ → Result (Unit {0}) Fault
 id_judged id = cond (nat_le 1 (length id) && nat_le (length id) 16) (Ok tt) (Err (fault BadId Call 0))

@@ -4,15 +4,14 @@
 --   rest_good    what the whole record must hold besides
 --   record_in    the record at a place of the snapshot table, or the fault at its first byte
 --   id_of        the id of a record that was kept
-use Rattle.std.specs.Prelude.{ℕ, ◌+◌, ◌-◌, ◌*◌, ◌/◌, ◌^◌, min, Bool, cond, ◌&&◌, ◌||◌, List, length, Ok, Err, Result, ◌==◌, nat_le}
+use Rattle.std.specs.Prelude.{ℕ, ◌+◌, ◌-◌, ◌*◌, ◌/◌, ◌^◌, min, Bool, cond, ◌&&◌, ◌||◌, List, length, take, Ok, Err, Result, ◌==◌, nat_le}
 use Rattle.std.specs.List.{list_all}
 use Rattle.fault.specs.declared.Fault.{Fault}
 use Rattle.fault.specs.declared.Layer.TheVariants.{Tables}
 use Rattle.fault.specs.declared.Reason.TheVariants.{BadEntry}
 use Rattle.fault.specs.Faults.{fault}
 use Rattle.fault.specs.Outcomes.{and_then}
-use Rattle.arrayvec.specs.ArrayVec.{ArrayVec}
-use Rattle.byte_lists.specs.Runs.{run}
+use Rattle.byte_lists.specs.Runs.{run, grow}
 use Rattle.byte_lists.specs.Numbers.{number}
 use Rattle.store.specs.Stores.{load}
 use Rattle.format.specs.declared.numbers.Numbers.{Numbers}
@@ -56,9 +55,9 @@ rest_good n h r = extra_says n h r && all_zero (run r (body h) (size h - body h)
 abbrev pub record_good : Bool → ℕ → Result (Unit {0}) Fault
 record_good test place = cond test (Ok tt) (Err (fault BadEntry Tables place))
 
--- the id of a record, from its bytes
-abbrev pub id_in : Head → List ℕ → ArrayVec ℕ
-id_in h r = record { items = run r (40 + h.extra) h.id }
+-- the id of a record, from its bytes, filled up with zeros
+abbrev pub id_in : Head → List ℕ → List ℕ
+id_in h r = grow (run r (40 + h.extra) h.id) 16
 
 -- what is kept of a good record, from its bytes
 abbrev pub snapshot : ℕ → Head → List ℕ → Snapshot
@@ -86,4 +85,4 @@ record_in n bs at =
     Ok (snapshot (record_place n at) h r)
 
 abbrev pub id_of : Snapshot → List ℕ
-id_of r = r.id.items
+id_of r = take r.head.id r.id

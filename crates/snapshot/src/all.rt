@@ -1,19 +1,19 @@
 // All snapshot records of an image, judged in their order; no two have the same id.
-ghost use Rattle.std.specs.Prelude.{◌≡◌, ◌+◌, ◌<◌, ◌≤◌, not, length, is_some, IfSome, Ok, Err, MatchResult};
+ghost use Rattle.std.specs.Prelude.{◌≡◌, ◌+◌, ◌<◌, ◌≤◌, not, [], ◌∷◌, ◌++◌, length, is_some, IfSome, Ok, Err, MatchResult};
 ghost use Rattle.std.specs.Str.{bytes_eq};
 ghost use Rattle.snapshot.specs.Records.{id_of, record_good};
 ghost use Rattle.snapshot.specs.All.{position, named as named_by, kept as kept_of, records as records_of, id_judged, table};
 
 use crate::records::{Snapshot, judge_record};
-use arrayvec::ArrayVec;
 use fault::{Fault, Layer, Reason};
 use format::Numbers;
 use store::Store;
 
-// The records in their order; an image has at most 64.
-#[derive(Clone, Drop)]
+// The records, as many as `count` says, from the front of the list; an image has at most 64.
+#[derive(Clone, Copy)]
 pub struct Records {
-    list: ArrayVec<Snapshot, 64>,
+    pub list: [Snapshot; 64],
+    pub count: usize,
 }
 
 fn same_id(id: &[u8], r: &Snapshot) -> bool
@@ -27,7 +27,7 @@ impl Records {
         ensures value { result.now ≡ kept_of self.now }
         ensures few { length result.now ≤ 64 }
     {
-        self.list.as_slice()
+        &self.list[0..self.count.min(64)]
     }
 
     // Where the first record with this id stands.
@@ -39,13 +39,24 @@ impl Records {
     }
 
     // The record with this id.
-    pub fn named(&self, id: &[u8]) -> Result<&Snapshot, Fault>
-        ensures value { MatchResult result (λ r. named_by id.now (kept_of self.now) ≡ Ok r.now) (λ e. named_by id.now (kept_of self.now) ≡ Err e) }
+    pub fn named(&self, id: &[u8]) -> Result<Snapshot, Fault>
+        ensures value { result ≡ named_by id.now (kept_of self.now) }
     {
         self.kept()
             .iter()
             .find(|r| same_id(id, r))
+            .copied()
             .ok_or(Fault::new(Reason::NoSuchId, Layer::Call, 0))
+    }
+
+    // One record more.
+    fn push(&mut self, r: Snapshot)
+        requires { self.old.count < 64 }
+        ensures kept { kept_of self.new ≡ kept_of self.old ++ r ∷ [] }
+        ensures count { self.new.count ≡ self.old.count + 1 }
+    {
+        self.list[self.count] = r;
+        self.count += 1;
     }
 
     // A record is bad if an earlier one has its id.
@@ -62,14 +73,15 @@ pub fn judge_records<S: Store>(s: &S, n: Numbers) -> Result<Records, Fault>
     ensures value { MatchResult result (λ all. records_of n (S.Store.bytes s.now) ≡ Ok (kept_of all)) (λ e. records_of n (S.Store.bytes s.now) ≡ Err e) }
 {
     let mut all = Records {
-        list: ArrayVec::new(),
+        list: [Snapshot::default(); 64],
+        count: 0,
     };
     let mut at = 0;
     for i in 0..n.records_kept() {
         let r = judge_record(s, n, at)?;
         all.judge_id(&r)?;
+        all.push(r);
         at += r.head.size();
-        all.list.push(r);
     }
     Ok(all)
 }

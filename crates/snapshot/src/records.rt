@@ -3,7 +3,6 @@ ghost use Rattle.std.specs.Prelude.{◌≡◌, ◌+◌, ◌-◌, ◌^◌, ◌≤
 ghost use Rattle.byte_lists.specs.Runs.{run};
 ghost use Rattle.snapshot.specs.Records.{head_of, body, size as size_of, extra_good, sizes_good, head_good, extra_says, all_zero, rest_good, id_in, head_in, record_place, record_in, id_of};
 
-use arrayvec::ArrayVec;
 use byte_lists::{number_at, within};
 use fault::{Fault, Layer, Reason};
 use format::Numbers;
@@ -21,11 +20,12 @@ pub struct Head {
 }
 
 // A good record: where it begins, the numbers that it begins with, and its id.
-#[derive(Clone, Drop, Default, PartialEq, Eq, Debug)]
+#[derive(Clone, Copy, Default, PartialEq, Eq, Debug)]
 pub struct Snapshot {
     pub place: u64,
     pub head: Head,
-    pub id: ArrayVec<u8, 16>,
+    // the id, filled up with zeros; its head says how many bytes it has
+    pub id: [u8; 16],
 }
 
 impl Snapshot {
@@ -33,7 +33,7 @@ impl Snapshot {
     pub fn id(&self) -> &[u8]
         ensures value { result.now ≡ id_of self.now }
     {
-        self.id.as_slice()
+        &self.id[..(self.head.id as usize).min(16)]
     }
 }
 
@@ -121,11 +121,15 @@ impl Record<'_> {
         self.extra_says() && self.padding_zero()
     }
 
-    fn id(&self) -> ArrayVec<u8, 16>
+    // The id, filled up with zeros.
+    fn id(&self) -> [u8; 16]
         ensures value { result ≡ id_in self.now.head self.now.bytes.now }
     {
         let at = 40 + self.head.extra as usize;
-        ArrayVec::try_from(&self.bytes[at..at + self.head.id as usize]).unwrap()
+        let letters = self.head.id as usize;
+        let mut id = [0u8; 16];
+        id[0..letters].copy_from_slice(&self.bytes[at..at + letters]);
+        id
     }
 }
 

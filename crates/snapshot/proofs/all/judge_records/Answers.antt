@@ -29,10 +29,10 @@ loop-i-preserved g c =
     let bs = g.S.Store.bytes c.args.s.now in
     let lt : c.loop-i.i < many n = omega arith in
     let r = c.in_ok-r.r in (
-      c.push.ensures.len ∙ ap (λ k. k + 1) c.loop-i.invariant.0,
+      c.push.ensures.count ∙ ap (λ k. k + 1) c.loop-i.invariant.0,
       omega (arith, c.in_ok-r.ensures.ends, c.size-at.ensures.value),
-      ap (λ k. records_from n bs (many n - (c.loop-i.i + 1)) (c.loop-i.at + k) c.push.new.self.items) c.size-at.ensures.value
-          ∙ ap (records_from n bs (many n - (c.loop-i.i + 1)) (c.loop-i.at + size r.head)) c.push.ensures.items
+      ap (λ k. records_from n bs (many n - (c.loop-i.i + 1)) (c.loop-i.at + k) (kept c.push.new.self)) c.size-at.ensures.value
+          ∙ ap (records_from n bs (many n - (c.loop-i.i + 1)) (c.loop-i.at + size r.head)) c.push.ensures.kept
           ∙ sym (one_more n bs (many n) c.loop-i.i c.loop-i.at (kept c.loop-i.all) lt r c.in_ok-r.ensures.value _ c.in_ok-judge_id.ensures.value)
           ∙ c.loop-i.invariant.2,
     )

@@ -25,13 +25,10 @@ found p all (r ∷ rs) i h =
     let next : (k : ℕ) → i + 1 + k ≡ i + suc k = λ k. omega arith in
     first all r i (p r) (position_from p (i + 1) rs) (find p rs) (ap (λ k. slice_index_or all k no_snapshot) here ∙ h 0) (found p all rs (i + 1) (λ k. ap (λ j. slice_index_or all j no_snapshot) (next k) ∙ h (suc k)))
 
-shown : (o : Option (Bor Snapshot)) (r : Result (Bor Snapshot) Fault) (e : Fault) (whole : Result Snapshot Fault) → r ≡ ok_or o e → whole ≡ ok_or (option_map (λ x. x.now) o) e → MatchResult r (λ x. whole ≡ Ok x.now) (λ f. whole ≡ Err f)
-shown None r e whole a w = subst (λ x. MatchResult x (λ x. whole ≡ Ok x.now) (λ f. whole ≡ Err f)) (sym a) w
-shown (Some x) r e whole a w = subst (λ x. MatchResult x (λ x. whole ≡ Ok x.now) (λ f. whole ≡ Err f)) (sym a) w
-
 pub returns : goal.returns
 returns c =
     let all = kept c.args.self.now in
     let p : Snapshot → Bool = λ r. bytes_eq c.args.id.now (id_of r) in
     let is = find_from_yields_List p _ _ c.find.result c.find.ensures.ran (YieldsList-from_slice all cc) (λ x b q k. search (rules, tests)) in
-    record { value = shown c.find.result c.ok_or.result (fault NoSuchId Call 0) _ (c.ok_or.ensures.value ∙ ap (ok_or c.find.result) c.new.ensures.value) (found p all all 0 (λ k. ap (λ j. slice_index_or all j no_snapshot) (zero-add k)) ∙ ap (λ o. ok_or o (fault NoSuchId Call 0)) (sym is)) }
+    let whole = found p all all 0 (λ k. ap (λ j. slice_index_or all j no_snapshot) (zero-add k)) in
+    record { value = c.ok_or.ensures.value ∙ ap (ok_or c.copied.result) c.new.ensures.value ∙ ap (λ o. ok_or o (fault NoSuchId Call 0)) (c.copied.ensures ∙ is) ∙ sym whole }
