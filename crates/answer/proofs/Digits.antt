@@ -5,7 +5,6 @@ use Rattle.std.proofs.Math.ListN.{replicate}
 use Rattle.std.proofs.Math.Nat.{div-div-eq-div-mul, pow-succ'}
 use Rattle.std.proofs.lemmas.Bool.{cases_lt}
 use Rattle.std.proofs.lemmas.Bool.Decides.{nat_tests}
-use Rattle.std.proofs.lemmas.Fmt.{hex_byte}
 use Rattle.std.proofs.lemmas.Grind.{common_steps}
 use Rattle.std.proofs.lemmas.List.{append-nil, replicate_more}
 use Rattle.std.specs.Char.{digit_char}
@@ -91,20 +90,6 @@ in_bytes (suc k) x =
     ∙ ap (λ q. rest ++ digit_char (x / 16 % 16) ∷ digit_char q ∷ []) low
     ∙ sym (append_assoc rest (digit_char (x / 16 % 16) ∷ []) (digit_char (x % 16) ∷ []))
     ∙ ap (λ j. last_digits j x) (sym two)
-
--- what `{:02x}` writes of a byte
-abbrev pub byte_digits : ℕ → List ℕ
-byte_digits b = padded_integral (format_spec 32 0 4 2 (2 ^ 64 - 1)) false [] (digits 16 false b)
-
--- what `{:08x}` writes of a word of 32 bits
-abbrev pub word_digits : ℕ → List ℕ
-word_digits w = padded_integral (format_spec 32 0 4 8 (2 ^ 64 - 1)) false [] (digits 16 false w)
-
-pub byte_padded : (b : ℕ) → b < 256 → byte_digits b ≡ hexadecimal (b ∷ [])
-byte_padded b small = let high : b / 16 % 16 ≡ b / 16 = omega arith in hex_byte false b small ∙ ap (λ q. digit_char q ∷ digit_char (b % 16) ∷ []) (sym high)
-
-pub word_padded : (w : ℕ) → w < 2 ^ 32 → word_digits w ≡ hexadecimal (be_bytes 4 w)
-word_padded w small = padded_digits 8 w (omega arith) (omega arith) (omega arith) ∙ sym (in_bytes 4 w)
 
 -- what `{:016x}` writes of a number of 64 bits
 pub number_padded : (n : ℕ) → n < 2 ^ 64 → padded_integral (format_spec 32 0 4 16 (2 ^ 64 - 1)) false [] (digits 16 false n) ≡ hexadecimal (be_bytes 8 n)

@@ -1,11 +1,36 @@
 // Record lines.
-ghost use Rattle.std.specs.Prelude.{◌≡◌, Some, IfOk, string_bytes};
+ghost use Rattle.std.specs.Prelude.{◌≡◌, ◌%◌, [], ◌∷◌, Some, IfOk, string_bytes};
+ghost use Rattle.std.specs.Char.{digit_char};
 ghost use Rattle.answer.specs.Records.{told, hexadecimal, words_shown, shown, record_line};
 
 use crate::answers::Answer;
 use crate::digests::digest;
 use std::alloc::{AllocError, Global};
 use std::fmt;
+
+// The digit of the lower four bits; most of a record line is digits, and to format each byte takes five times as long.
+fn digit(d: u8) -> &'static str
+    ensures value { result.now ≡ digit_char (d % 16) ∷ [] }
+{
+    match d % 16 {
+        0 => "0",
+        1 => "1",
+        2 => "2",
+        3 => "3",
+        4 => "4",
+        5 => "5",
+        6 => "6",
+        7 => "7",
+        8 => "8",
+        9 => "9",
+        10 => "a",
+        11 => "b",
+        12 => "c",
+        13 => "d",
+        14 => "e",
+        _ => "f",
+    }
+}
 
 // Bytes in two digits each.
 #[derive(Clone, Copy)]
@@ -15,8 +40,9 @@ impl fmt::Display for Hex<'_> {
     ghost output = { λ x. Some (hexadecimal x.0.now) };
 
     fn fmt<W: fmt::Write>(&self, f: &mut fmt::Formatter<W>) -> fmt::Result {
-        for &b in self.0 {
-            write!(f, "{b:02x}")?;
+        for b in self.0 {
+            f.write_str(digit(*b / 16))?;
+            f.write_str(digit(*b))?;
         }
         Ok(())
     }
@@ -33,10 +59,10 @@ impl fmt::Display for Words<'_> {
         let Some((first, more)) = self.0.split_first() else {
             return write!(f, "-");
         };
-        let first = *first;
-        write!(f, "{first:08x}")?;
-        for &w in more {
-            write!(f, ",{w:08x}")?;
+        Hex(&first.to_be_bytes()).fmt(f)?;
+        for w in more {
+            f.write_str(",")?;
+            Hex(&w.to_be_bytes()).fmt(f)?;
         }
         Ok(())
     }

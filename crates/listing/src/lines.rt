@@ -1,9 +1,8 @@
 // Bytes as text: names with their unprintable letters escaped, and lines of hexadecimal.
 ghost use Rattle.std.specs.Prelude.{◌≡◌, ◌++◌, IfOk, OnOk, string_bytes, map, codes};
-ghost use Rattle.listing.specs.Lines.{plain, escape, escaped, dotted, gap, spaced, place, line};
+ghost use Rattle.listing.specs.Lines.{plain, octet, escape, escaped, dotted, gap, spaced, place, line};
 
 use std::alloc::{AllocError, Global};
-use std::fmt::Write;
 
 fn is_plain(b: u8) -> bool
     ensures value { result ≡ plain b }
@@ -11,15 +10,22 @@ fn is_plain(b: u8) -> bool
     matches!(b, 0x20..=0x7e)
 }
 
-#[tactic(auto, using(std::proofs::lemmas::Fmt::hex_byte))]
+// A byte in two hexadecimal digits; to format it takes more than twice as long.
+fn push_octet(text: &mut String, b: u8) -> Result<(), AllocError>
+    ensures bytes { OnOk result (string_bytes text.new ≡ string_bytes text.old ++ octet b) }
+{
+    text.push(char::from_digit(u32::from(b / 16), 16).unwrap())?;
+    text.push(char::from_digit(u32::from(b % 16), 16).unwrap())
+}
+
 fn push_escape(text: &mut String, b: u8) -> Result<(), AllocError>
     ensures bytes { OnOk result (string_bytes text.new ≡ string_bytes text.old ++ escape b) }
 {
     if is_plain(b) && b != b'\\' {
-        text.push(char::from(b))
-    } else {
-        write!(text, "\\x{b:02x}")
+        return text.push(char::from(b));
     }
+    text.push_str("\\x")?;
+    push_octet(text, b)
 }
 
 // A name as text: printable letters as they are, others and the backslash as \xNN.
@@ -55,8 +61,8 @@ fn push_pairs(text: &mut String, bytes: &[u8]) -> Result<(), AllocError>
     ensures bytes { OnOk result (string_bytes text.new ≡ string_bytes text.old ++ spaced 0 bytes.now) }
 {
     for (i, b) in bytes.iter().enumerate() {
-        let gap = gap(i);
-        write!(text, "{b:02x}{gap}")?;
+        push_octet(text, *b)?;
+        text.push_str(gap(i))?;
     }
     Ok(())
 }

@@ -1,26 +1,29 @@
-use Rattle.std.proofs.Common.{◌≡◌, ℕ, ◌+◌, ◌^◌, ◌<◌, List, ◌++◌, length, get_or, drop, ap, ◌∙◌, sym, rules, arith, append_assoc, codes}
+use Rattle.std.proofs.Common.{◌≡◌, ℕ, ◌+◌, ◌<◌, List, ◌++◌, length, get_or, drop, refl, ap, ◌∙◌, sym, codes}
 use Rattle.std.proofs.Output.{has_written_append}
 use Rattle.std.proofs.lemmas.List.{at_drop_more}
-use Rattle.answer.specs.Records.{more_words, words_shown}
-use Rattle.answer.proofs.Digits.{word_digits, word_padded, a_piece_later}
+use Rattle.byte_lists.specs.Numbers.{be_bytes}
+use Rattle.byte_lists.proofs.Numbers.{four_bytes}
+use Rattle.answer.specs.Records.{hexadecimal, more_words, words_shown}
+use Rattle.answer.proofs.Digits.{a_piece_later}
 use Rattle.answer.proofs.records.WordsDisplay.fmt.Goals as goal
 
-next_word : (ws : List ℕ) (i : ℕ) → i < length ws → get_or ws i 0 < 2 ^ 32 → (codes "," ++ word_digits (get_or ws i 0)) ++ more_words (drop (i + 1) ws) ≡ more_words (drop i ws)
-next_word ws i lt small =
-    append_assoc (codes ",") (word_digits (get_or ws i 0)) (more_words (drop (i + 1) ws))
-    ∙ ap (λ l. codes "," ++ (l ++ more_words (drop (i + 1) ws))) (word_padded (get_or ws i 0) small) ∙ sym (at_drop_more more_words ws i 0 lt)
+next_word : (ws bytes : List ℕ) (i : ℕ) → i < length ws → bytes ≡ be_bytes 4 (get_or ws i 0) → codes "," ++ (hexadecimal bytes ++ more_words (drop (i + 1) ws)) ≡ more_words (drop i ws)
+next_word ws bytes i lt e = ap (λ l. codes "," ++ (hexadecimal l ++ more_words (drop (i + 1) ws))) e ∙ sym (at_drop_more more_words ws i 0 lt)
 
 pub loop-w-init : goal.loop-w-init
 loop-w-init g c = λ plain.
     let ws = c.in-Some.more.now in
-    (word_digits c.in-Some.first.now, search rules, ap (λ l. l ++ more_words ws) (word_padded c.in-Some.first.now (omega arith)) ∙ sym (ap words_shown c.in-Some.ensures.cases.0))
+    (hexadecimal c.to_be_bytes.result, c.in_ok-fmt.ensures.writes plain refl, ap (λ l. hexadecimal l ++ more_words ws) (c.to_be_bytes.ensures ∙ sym (four_bytes c.in-Some.first.now)) ∙ sym (ap words_shown c.in-Some.ensures.cases.0))
 
 pub loop-w-preserved : goal.loop-w-preserved
 loop-w-preserved g c = λ plain.
     let now = c.loop-w.invariant plain in
     let ws = c.in-Some.more.now in
-    let shown = codes "," ++ word_digits (get_or ws c.loop-w.w-index 0) in (
-      now.0 ++ shown,
-      has_written_append _ _ _ _ _ _ now.1 (search rules),
-      a_piece_later now.0 shown _ _ _ (next_word ws c.loop-w.w-index c.loop-w-test.true (omega arith)) now.2,
+    let i = c.loop-w.w-index in
+    let bytes = c.to_be_bytes-in-loop-w.result in
+    let one = has_written_append _ _ _ _ _ _ now.1 (c.in_ok-write_str.ensures.writes now.1.plain refl) in
+    let left = next_word ws bytes i c.loop-w-test.true (c.to_be_bytes-in-loop-w.ensures ∙ sym (four_bytes (get_or ws i 0))) in (
+      (now.0 ++ codes ",") ++ hexadecimal bytes,
+      has_written_append _ _ _ _ _ _ one (c.in_ok-fmt-2.ensures.writes one.plain refl),
+      a_piece_later (now.0 ++ codes ",") (hexadecimal bytes) _ _ _ refl (a_piece_later now.0 (codes ",") _ (hexadecimal bytes ++ more_words (drop (i + 1) ws)) _ left now.2),
     )
