@@ -1,7 +1,7 @@
 // Calls that make a store or ask one.
 ghost use Rattle.std.specs.Prelude.{◌≡◌, IfOk};
 ghost use Rattle.text.specs.Calls as ask;
-ghost use Rattle.script.specs.Sessions.{state, Meets};
+ghost use Rattle.script.specs.Sessions.{state, changed, Meets};
 
 use crate::outcome::{Change, Outcome, Unmet, done, unchanged};
 use crate::session::{Saved, Session};
@@ -11,11 +11,15 @@ use std::alloc::AllocError;
 use store::Store;
 
 impl Session {
-    // A new store; lists for which there is no memory are refused here, and not at the first call to the store.
+    // A new store; lists for which there is no memory are refused here, and not at the first call to the store. What
+    // passes their end is cut off, since each call copies the content.
+    #[tactic(auto, using(crate::proofs::Fronts::cut_once))]
     pub(crate) fn set_store(&self, space: Space, content: Vec<u8>) -> Result<Outcome, AllocError>
         ensures answer { IfOk result (λ o. o.answer ≡ Answer.Done) }
-        ensures change { IfOk result (λ o. o.change ≡ Change.Store (record { space = space; content = content })) }
+        ensures change { IfOk result (λ o. changed o.change (state self.now) ≡ changed (Change.Store (record { space = space; content = content })) (state self.now)) }
     {
+        let mut content = content;
+        content.truncate(space.limit() as usize);
         let _lists = Lists::new(self.heap, space, content.as_slice())?;
         Ok(done(Change::Store(Saved { space, content })))
     }
