@@ -19,24 +19,21 @@ fn put_byte(image: &mut [u8], at: usize, value: u8) -> bool {
     true
 }
 
-// An edit is AT/WIDTH=VALUE: a number written in 1, 4 or 8 bytes.
+// A number written to a byte of a header, or to four or eight: `AT/WIDTH=VALUE`.
 fn patch(image: &mut [u8], edit: &str) -> anyhow::Result<()> {
-    let Some((place, value)) = edit.split_once('=') else {
-        return Err(anyhow!("an edit is AT/WIDTH=VALUE"));
-    };
-    let Some((at, width)) = place.split_once('/') else {
+    let (Some((at, rest)), Some((_, value))) = (edit.split_once('/'), edit.split_once('=')) else {
         return Err(anyhow!("an edit is AT/WIDTH=VALUE"));
     };
     let at = at.parse::<usize>()?;
     let value = value.parse::<u64>()?;
-    let fits = match width {
-        "8" => put_number(image, at, value),
-        "4" => put_number(image, at, (value & 0xffff_ffff) as u32),
-        "1" => put_byte(image, at, (value & 0xff) as u8),
-        _ => return Err(anyhow!("a width is 1, 4 or 8")),
+    let done = match rest.split_once('=') {
+        Some(("8", _)) => put_number(image, at, value),
+        Some(("4", _)) => put_number(image, at, (value & 0xffff_ffff) as u32),
+        Some(("1", _)) => put_byte(image, at, (value & 0xff) as u8),
+        _ => false,
     };
-    if !fits {
-        return Err(anyhow!("{at} is past the image's end"));
+    if !done {
+        return Err(anyhow!("a width is 1, 4 or 8"));
     }
     Ok(())
 }
