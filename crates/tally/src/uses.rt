@@ -16,7 +16,7 @@ pub enum Used {
 
 impl Used {
     // The number that stands for it in a tally word.
-    pub(crate) fn number(self) -> u32
+    pub fn number(self) -> u32
         ensures value { result ≡ use_number self }
         ensures most { result ≤ 15 }
     {
