@@ -33,6 +33,8 @@ impl Store for AnyStore<'_> {
         }
     }
 
+    // A check reads entries of a few bytes, which take a third longer if each is a call.
+    #[inline(always)]
     fn read(&self, first: u64, out: &mut [u8]) -> Result<(), Fault> {
         match self {
             AnyStore::Flat(s) => s.read(first, out),
