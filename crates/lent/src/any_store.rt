@@ -33,7 +33,7 @@ impl Store for AnyStore<'_> {
         }
     }
 
-    // A check reads entries of a few bytes, which take a third longer if each is a call.
+    // A check reads entries of a few bytes, and takes half as long again if each is a call.
     #[inline(always)]
     fn read(&self, first: u64, out: &mut [u8]) -> Result<(), Fault> {
         match self {

@@ -1,16 +1,11 @@
--- A list's front, and records seen one by one. Assumes nothing.
-use Rattle.std.proofs.Common.{◌≡◌, ℕ, suc, ◌+◌, ◌-◌, ◌<◌, min, not, List, [], ◌∷◌, ◌++◌, length, take, is_some, Ok, Err, Result, sym, ap, ◌∙◌, arith, length-take}
-use Rattle.std.proofs.lemmas.List.{places, same_lists}
+-- Records seen one by one. Assumes nothing.
+use Rattle.std.proofs.Common.{◌≡◌, ℕ, suc, ◌+◌, ◌-◌, ◌<◌, not, List, [], ◌∷◌, ◌++◌, is_some, Ok, Err, Result, sym, ap, ◌∙◌, arith}
 use Rattle.fault.specs.declared.Fault.{Fault}
 use Rattle.fault.specs.Outcomes.{and_then}
 use Rattle.format.specs.declared.numbers.Numbers.{Numbers}
 use Rattle.snapshot.specs.declared.records.Snapshot.{Snapshot}
 use Rattle.snapshot.specs.Records.{size, id_of, record_in, record_good}
 use Rattle.snapshot.specs.All.{position, records_from}
-
--- a list of m elements cut at a number held at m
-pub cut_at : {X : Type 0} (m : ℕ) (xs : List X) (n k : ℕ) → length xs ≡ m → k ≡ min n m → take (k - 0) xs ≡ take n xs
-cut_at m xs n k e f = same_lists (take (k - 0) xs) (take n xs) (simp length-take (omega arith)) (λ j d lt. grind (arith, places, length-take))
 
 -- one record more of m, seen good, bad in itself, or bad by its id
 module _ (n : Numbers) (bs : List ℕ) (m i at : ℕ) (seen : List Snapshot) (lt : i < m) where

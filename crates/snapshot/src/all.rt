@@ -27,7 +27,7 @@ impl Records {
         ensures value { result.now ≡ kept_of self.now }
         ensures few { length result.now ≤ 64 }
     {
-        &self.list[0..self.count.min(64)]
+        &self.list[..self.count.min(64)]
     }
 
     // Where the first record with this id stands.
